@@ -57,7 +57,7 @@ pub fn searching<R: Wait>(
 
 /// Searches the graph as it stands, against the last search where that is kept. What is published is the answer of the
 /// search from scratch; where no worker fell, compute is called for what differs from the last search. No worker is
-/// made to fall; one falls that has no memory left.
+/// made to fall; one falls that has no more memory.
 ///
 /// # Errors
 ///

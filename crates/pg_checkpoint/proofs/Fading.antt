@@ -22,13 +22,13 @@ whole_or_none ma ra mb rb n four_a four_b small_a small_b is =
     let b = framed mb rb in
     let cut = drop n b in
     let both : b ≡ a ++ cut = sym (take-append-drop n b) ∙ ap (λ (l : List ℕ). l ++ cut) (sym is) in
-    let left : drop 4 b ≡ natural_coding (12 + length rb) ++ rb = drop_at mb (natural_coding (12 + length rb) ++ rb) 4 four_b in
+    let remaining : drop 4 b ≡ natural_coding (12 + length rb) ++ rb = drop_at mb (natural_coding (12 + length rb) ++ rb) 4 four_b in
     let regrouped : a ++ cut ≡ ma ++ (natural_coding (12 + length ra) ++ (ra ++ cut)) =
     append_assoc ma (natural_coding (12 + length ra) ++ ra) cut ∙ ap (λ (l : List ℕ). ma ++ l) (append_assoc (natural_coding (12 + length ra)) ra cut) in
     let right : drop 4 b ≡ natural_coding (12 + length ra) ++ (ra ++ cut) =
     ap (drop 4) (both ∙ regrouped) ∙ drop_at ma (natural_coding (12 + length ra) ++ (ra ++ cut)) 4 four_a in
     let words : natural_coding (12 + length rb) ≡ natural_coding (12 + length ra) =
-    sym (take_at (natural_coding (12 + length rb)) rb 8 refl) ∙ ap (take 8) (sym left ∙ right) ∙ take_at (natural_coding (12 + length ra)) (ra ++ cut) 8 refl in
+    sym (take_at (natural_coding (12 + length rb)) rb 8 refl) ∙ ap (take 8) (sym remaining ∙ right) ∙ take_at (natural_coding (12 + length ra)) (ra ++ cut) 8 refl in
     let same : 12 + length rb ≡ 12 + length ra = natural_same (12 + length rb) (12 + length ra) small_b small_a words in
     let lengths : length b ≡ length a + length cut = ap length both ∙ length-append a cut in
     let nothing : cut ≡ [] = nil_from_length cut (omega (arith, lengths, same, framed_length ma ra four_a, framed_length mb rb four_b)) in

@@ -16,12 +16,12 @@ pub written : (len run partition count edges : ℕ) (room body header before aft
     → len ≡ length before → header ≡ header_of len run partition count edges → after ≡ header ++ drop (length header) before
     → after ≡ framed second_magic (rest_of run partition count edges body)
 written len run partition count edges room body header before after kept is counted shown put =
-    let left : drop 36 before ≡ body = ap (drop 36) is ∙ drop_at room body 36 kept in
+    let remaining : drop 36 before ≡ body = ap (drop 36) is ∙ drop_at room body 36 kept in
     let long : len ≡ 12 + length (rest_of run partition count edges body) =
     let all : length before ≡ 36 + length body = ap length is ∙ length-append room body ∙ ap (λ n. n + length body) kept in
     let rest : length (rest_of run partition count edges body) ≡ 24 + length body = omega arith in
     omega (arith, counted, all, rest) in
-    put ∙ ap (λ h. h ++ drop (length h) before) shown ∙ ap (λ l. header_of len run partition count edges ++ l) left
+    put ∙ ap (λ h. h ++ drop (length h) before) shown ∙ ap (λ l. header_of len run partition count edges ++ l) remaining
     ∙ ap (λ n. second_magic ++ (natural_coding n ++ rest_of run partition count edges body)) long
 
 -- the same of other numbers that are equal

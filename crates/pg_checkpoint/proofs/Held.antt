@@ -34,7 +34,7 @@ module _ {X Y : Type 0} (f : X → Y) (P : Y → Type 0) where
   among [] x rest h = h.0
   among (y ∷ before) x rest h = among before x rest h.1
 
-  pub of_one : (before rest : List X) (x : X) {left whole : List X} → left ≡ x ∷ rest → before ++ left ≡ whole → AllByRecursion P (map f whole) → P (f x)
+  pub of_one : (before rest : List X) (x : X) {remaining whole : List X} → remaining ≡ x ∷ rest → before ++ remaining ≡ whole → AllByRecursion P (map f whole) → P (f x)
   of_one before rest x next is all =
       among before x rest (subst (λ (l : List X). AllByRecursion P (map f l)) (sym (ap (λ l. before ++ l) (sym next) ∙ is)) all)
 
@@ -67,8 +67,8 @@ module _ {V M : Type 0} (limits : Limits) where
   from_one s k [] one rest at h = subst (λ (j : ℕ). MayHoldAll limits j (map record_of one)) (omega (arith, at)) h.0
   from_one s k (x ∷ before) one rest at h = from_one (suc s) k before one rest (omega (arith, at)) h.1
 
-  pub of_superstep : (k : ℕ) (before rest : List (List (RecordParts V M))) (one : List (RecordParts V M)) {left whole : List (List (RecordParts V M))}
-      → k ≡ length before → left ≡ one ∷ rest → before ++ left ≡ whole → MayHoldFrom limits 0 (records_of whole) → MayHoldAll limits k (map record_of one)
+  pub of_superstep : (k : ℕ) (before rest : List (List (RecordParts V M))) (one : List (RecordParts V M)) {remaining whole : List (List (RecordParts V M))}
+      → k ≡ length before → remaining ≡ one ∷ rest → before ++ remaining ≡ whole → MayHoldFrom limits 0 (records_of whole) → MayHoldAll limits k (map record_of one)
   of_superstep k before rest one at next is all =
       from_one 0 k before one rest (omega (arith, at))
       (subst (λ (l : List (List (RecordParts V M))). MayHoldFrom limits 0 (records_of l)) (sym (ap (λ l. before ++ l) (sym next) ∙ is)) all)

@@ -76,9 +76,9 @@ module _ {V M : Type 0} (is_value : V → Type 0) (value : V → List ℕ) (is_m
       (is ∙ opens value message run partition edges records)
 
   -- there is no opening
-  pub not_opened : (e : Unread) (left : List ℕ) → Reads IsOpening opening_coding bytes (Err e) left → Stated (Err e)
-  not_opened Memory left h = tt
-  not_opened Damaged left h = λ edges records small codable is. none_some _ (stated None h edges records codable is)
+  pub not_opened : (e : Unread) (remaining : List ℕ) → Reads IsOpening opening_coding bytes (Err e) remaining → Stated (Err e)
+  not_opened Memory remaining h = tt
+  not_opened Damaged remaining h = λ edges records small codable is. none_some _ (stated None h edges records codable is)
 
   module _ (o : Opening) (rest : List ℕ) (h : IsRead IsOpening opening_coding bytes (Some (o, rest))) where
     same : (edges : Option ℕ) (records : Supersteps V M) → AreCodable is_value is_message records → Codes edges records
@@ -114,13 +114,13 @@ module _ {V M : Type 0} (is_value : V → Type 0) (value : V → List ℕ) (is_m
         }) (s.1 ∙ sym whole ∙ sym (append-nil (rest_coding value message (contents_of edges records))))
 
     -- what is to stand behind it doesn't
-    pub not_behind : (e : Unread) (left : List ℕ) → Reads (IsRest is_value is_message o) (rest_coding value message) rest (Err e) left → Stated (Err e)
-    not_behind Memory left r = tt
-    not_behind Damaged left r = λ edges records small codable is. none_some _ (found_rest None r edges records small codable is)
+    pub not_behind : (e : Unread) (remaining : List ℕ) → Reads (IsRest is_value is_message o) (rest_coding value message) rest (Err e) remaining → Stated (Err e)
+    not_behind Memory remaining r = tt
+    not_behind Damaged remaining r = λ edges records small codable is. none_some _ (found_rest None r edges records small codable is)
 
     -- something stands behind that
-    pub not_done : (contents : Contents V M) (left : List ℕ) → Rest (Some (contents, left)) → (left ≡ [] → ⊥) → Stated (Err Damaged)
-    not_done contents left r fails edges records small codable is =
+    pub not_done : (contents : Contents V M) (remaining : List ℕ) → Rest (Some (contents, remaining)) → (remaining ≡ [] → ⊥) → Stated (Err Damaged)
+    not_done contents remaining r fails edges records small codable is =
         fails (ap (λ (x : Contents V M × List ℕ). x.1) (some_is _ _ (found_rest _ r edges records small codable is)))
 
     pub is_said : (contents : Contents V M) → o.len ≡ length bytes → o.run ≡ run → o.partition ≡ partition → Rest (Some (contents, []))
@@ -128,21 +128,21 @@ module _ {V M : Type 0} (is_value : V → Type 0) (value : V → List ℕ) (is_m
     is_said contents len_is run_is partition_is r =
         let records = records_of contents.supersteps in
         let count : length records ≡ o.supersteps = length-map contents.supersteps (λ l. map _ l) ∙ r.front.0.supersteps.0 in
-        let left : rest ≡ behind value message run partition contents.edges records =
+        let remaining : rest ≡ behind value message run partition contents.edges records =
         r.front.1 ∙ append-nil (rest_coding value message contents) ∙ ap (λ l. edges_coding contents.edges ++ l) (all_same value message contents.supersteps) in
         let one : length bytes ≡ 28 + length rest = ap length h.front.1 ∙ length-append (opening_coding o) rest in
         let two : len_of value message run partition contents.edges records ≡ 28 + length (behind value message run partition contents.edges records) =
         sym (long value message run partition contents.edges records) ∙ ap length (opens value message run partition contents.edges records)
         ∙ length-append (opening_coding (opening_of value message run partition contents.edges records)) (behind value message run partition contents.edges records) in
         let opening : o ≡ opening_of value message run partition contents.edges records =
-        same_opening o (opening_of value message run partition contents.edges records) r.front.0.format (len_is ∙ one ∙ ap (λ l. 28 + length l) left ∙ sym two)
+        same_opening o (opening_of value message run partition contents.edges records) r.front.0.format (len_is ∙ one ∙ ap (λ l. 28 + length l) remaining ∙ sym two)
         run_is partition_is (sym count) in
         record {
           codable = (
             subst (λ n. n < 2 ^ 32) (sym count) h.front.0.supersteps,
             all_codable is_value is_message contents.supersteps r.front.0.supersteps.1,
           );
-          coded = h.front.1 ∙ ap₂ (λ p l. opening_coding p ++ l) opening left ∙ sym (opens value message run partition contents.edges records);
+          coded = h.front.1 ∙ ap₂ (λ p l. opening_coding p ++ l) opening remaining ∙ sym (opens value message run partition contents.edges records);
           only = λ edges others small codable is.
               let e = ap (λ (x : Contents V M × List ℕ). x.0) (some_is _ _ (found_rest _ r edges others small codable is)) in
               (sym (ap (λ x. x.edges) e), sym (ap (λ x. records_of x.supersteps) e ∙ back others));

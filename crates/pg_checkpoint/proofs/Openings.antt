@@ -52,43 +52,43 @@ fro : (o : Opening) → IsOpening o → are_fields (fields o) × (opening_coding
 fro o v = ((v.magic, (v.len, (v.run, (v.partition, v.supersteps)))), refl, refl)
 
 module _ (bytes : List ℕ) where
-  as_opening : (e : Unread) (left : List ℕ) → Reads are_fields fields_coding bytes (Err e) left → Reads IsOpening opening_coding bytes (Err e) left
-  as_opening e left h = fails_as are_fields fields_coding IsOpening opening_coding made fields there fro bytes e left h
+  as_opening : (e : Unread) (remaining : List ℕ) → Reads are_fields fields_coding bytes (Err e) remaining → Reads IsOpening opening_coding bytes (Err e) remaining
+  as_opening e remaining h = fails_as are_fields fields_coding IsOpening opening_coding made fields there fro bytes e remaining h
 
   module _ (magic : ℕ) (one : List ℕ) (a : IsRead is_half half_coding bytes (Some (magic, one))) where
-    from_len : (e : Unread) (left : List ℕ) → Reads are_second second_coding one (Err e) left → Reads IsOpening opening_coding bytes (Err e) left
-    from_len e left h = as_opening e left (second_fails is_half half_coding are_second second_coding bytes magic one e left a h)
+    from_len : (e : Unread) (remaining : List ℕ) → Reads are_second second_coding one (Err e) remaining → Reads IsOpening opening_coding bytes (Err e) remaining
+    from_len e remaining h = as_opening e remaining (second_fails is_half half_coding are_second second_coding bytes magic one e remaining a h)
 
-    pub no_len : (e : Unread) (left : List ℕ) → Reads is_natural natural_coding one (Err e) left → Reads IsOpening opening_coding bytes (Err e) left
-    no_len e left h = from_len e left (first_fails is_natural natural_coding are_third third_coding one e left h)
+    pub no_len : (e : Unread) (remaining : List ℕ) → Reads is_natural natural_coding one (Err e) remaining → Reads IsOpening opening_coding bytes (Err e) remaining
+    no_len e remaining h = from_len e remaining (first_fails is_natural natural_coding are_third third_coding one e remaining h)
 
     module _ (len : ℕ) (two : List ℕ) (b : IsRead is_natural natural_coding one (Some (len, two))) where
-      from_run : (e : Unread) (left : List ℕ) → Reads are_third third_coding two (Err e) left → Reads IsOpening opening_coding bytes (Err e) left
-      from_run e left h = from_len e left (second_fails is_natural natural_coding are_third third_coding one len two e left b h)
+      from_run : (e : Unread) (remaining : List ℕ) → Reads are_third third_coding two (Err e) remaining → Reads IsOpening opening_coding bytes (Err e) remaining
+      from_run e remaining h = from_len e remaining (second_fails is_natural natural_coding are_third third_coding one len two e remaining b h)
 
-      pub no_run : (e : Unread) (left : List ℕ) → Reads is_natural natural_coding two (Err e) left → Reads IsOpening opening_coding bytes (Err e) left
-      no_run e left h = from_run e left (first_fails is_natural natural_coding are_last last_coding two e left h)
+      pub no_run : (e : Unread) (remaining : List ℕ) → Reads is_natural natural_coding two (Err e) remaining → Reads IsOpening opening_coding bytes (Err e) remaining
+      no_run e remaining h = from_run e remaining (first_fails is_natural natural_coding are_last last_coding two e remaining h)
 
       module _ (run : ℕ) (three : List ℕ) (c : IsRead is_natural natural_coding two (Some (run, three))) where
-        from_partition : (e : Unread) (left : List ℕ) → Reads are_last last_coding three (Err e) left
-            → Reads IsOpening opening_coding bytes (Err e) left
-        from_partition e left h = from_run e left (second_fails is_natural natural_coding are_last last_coding two run three e left c h)
+        from_partition : (e : Unread) (remaining : List ℕ) → Reads are_last last_coding three (Err e) remaining
+            → Reads IsOpening opening_coding bytes (Err e) remaining
+        from_partition e remaining h = from_run e remaining (second_fails is_natural natural_coding are_last last_coding two run three e remaining c h)
 
-        pub no_partition : (e : Unread) (left : List ℕ) → Reads is_half half_coding three (Err e) left
-            → Reads IsOpening opening_coding bytes (Err e) left
-        no_partition e left h = from_partition e left (first_fails is_half half_coding is_half half_coding three e left h)
+        pub no_partition : (e : Unread) (remaining : List ℕ) → Reads is_half half_coding three (Err e) remaining
+            → Reads IsOpening opening_coding bytes (Err e) remaining
+        no_partition e remaining h = from_partition e remaining (first_fails is_half half_coding is_half half_coding three e remaining h)
 
         module _ (partition : ℕ) (four : List ℕ) (d : IsRead is_half half_coding three (Some (partition, four))) where
-          pub no_supersteps : (e : Unread) (left : List ℕ) → Reads is_half half_coding four (Err e) left
-              → Reads IsOpening opening_coding bytes (Err e) left
-          no_supersteps e left h = from_partition e left (second_fails is_half half_coding is_half half_coding three partition four e left d h)
+          pub no_supersteps : (e : Unread) (remaining : List ℕ) → Reads is_half half_coding four (Err e) remaining
+              → Reads IsOpening opening_coding bytes (Err e) remaining
+          no_supersteps e remaining h = from_partition e remaining (second_fails is_half half_coding is_half half_coding three partition four e remaining d h)
 
-          pub is_opened : (supersteps : ℕ) (left : List ℕ) → IsRead is_half half_coding four (Some (supersteps, left))
-              → IsRead IsOpening opening_coding bytes (Some (made (magic, (len, (run, (partition, supersteps)))), left))
-          is_opened supersteps left h =
+          pub is_opened : (supersteps : ℕ) (remaining : List ℕ) → IsRead is_half half_coding four (Some (supersteps, remaining))
+              → IsRead IsOpening opening_coding bytes (Some (made (magic, (len, (run, (partition, supersteps)))), remaining))
+          is_opened supersteps remaining h =
               seen_as are_fields fields_coding IsOpening opening_coding made fields there fro bytes
-              (Some ((magic, (len, (run, (partition, supersteps)))), left))
-              (both_read is_half half_coding are_second second_coding bytes magic one (len, (run, (partition, supersteps))) left a
-              (both_read is_natural natural_coding are_third third_coding one len two (run, (partition, supersteps)) left b
-              (both_read is_natural natural_coding are_last last_coding two run three (partition, supersteps) left c
-              (both_read is_half half_coding is_half half_coding three partition four supersteps left d h))))
+              (Some ((magic, (len, (run, (partition, supersteps)))), remaining))
+              (both_read is_half half_coding are_second second_coding bytes magic one (len, (run, (partition, supersteps))) remaining a
+              (both_read is_natural natural_coding are_third third_coding one len two (run, (partition, supersteps)) remaining b
+              (both_read is_natural natural_coding are_last last_coding two run three (partition, supersteps) remaining c
+              (both_read is_half half_coding is_half half_coding three partition four supersteps remaining d h))))

@@ -31,8 +31,8 @@ module _ {V M : Type 0} (is_value : V → Type 0) (value : V → List ℕ) (is_m
       → bytes ≡ part_coding value message asked.run saved
   whole bytes records fits faded is =
       let own : Supersteps V M = own_records saved in
-      let left : List ℕ = second_rest value message asked.run saved.part_run.partition (edges_behind saved.part_run.trace.initial own) own in
-      let many : length (part_coding value message asked.run saved) ≡ 12 + length left = framed_length second_magic left refl in
+      let remaining : List ℕ = second_rest value message asked.run saved.part_run.partition (edges_behind saved.part_run.trace.initial own) own in
+      let many : length (part_coding value message asked.run saved) ≡ 12 + length remaining = framed_length second_magic remaining refl in
       let cut : length (part_coding value message asked.run saved) ≡ length bytes + length (drop faded.0 (part_coding value message asked.run saved)) =
       ap length (sym (take-append-drop faded.0 (part_coding value message asked.run saved)))
       ∙ (length-append (take faded.0 (part_coding value message asked.run saved)) (drop faded.0 (part_coding value message asked.run saved))
@@ -42,13 +42,13 @@ module _ {V M : Type 0} (is_value : V → Type 0) (value : V → List ℕ) (is_m
         | inl first ↦ (
             let rest : List ℕ = first_rest value message asked.run asked.rows.partition records in
             let long : length bytes ≡ 12 + length rest = ap length first ∙ framed_length first_magic rest refl in
-            first ∙ whole_or_none first_magic rest second_magic left faded.0 refl refl (omega (arith, long, shorter, fits)) (omega (arith, many, fits))
+            first ∙ whole_or_none first_magic rest second_magic remaining faded.0 refl refl (omega (arith, long, shorter, fits)) (omega (arith, many, fits))
             (sym first ∙ faded.1)
             )
         | inr second ↦ (
             let rest : List ℕ = second_rest value message asked.run asked.rows.partition (edges_behind (initial_of asked) records) records in
             let long : length bytes ≡ 12 + length rest = ap length second ∙ framed_length second_magic rest refl in
-            second ∙ whole_or_none second_magic rest second_magic left faded.0 refl refl (omega (arith, long, shorter, fits)) (omega (arith, many, fits))
+            second ∙ whole_or_none second_magic rest second_magic remaining faded.0 refl refl (omega (arith, long, shorter, fits)) (omega (arith, many, fits))
             (sym second ∙ faded.1)
             )
       ]

@@ -11,35 +11,35 @@ use Rattle.pg_program.specs.Plain.{are_both, are_listed, is_natural}
 
 -- an item of a list that isn't read
 module _ {A : Type 0} (is_value : A → Type 0) (coding : A → List ℕ) where
-  pub no_item : (count : ℕ) (bytes : List ℕ) (items : List A) (left : ℕ) (rest : List ℕ) (e : Unread) (after : List ℕ) → 0 < left
-      → Reads is_value coding rest (Err e) after → IsBehind is_value coding count bytes items left rest
+  pub no_item : (count : ℕ) (bytes : List ℕ) (items : List A) (remaining : ℕ) (rest : List ℕ) (e : Unread) (after : List ℕ) → 0 < remaining
+      → Reads is_value coding rest (Err e) after → IsBehind is_value coding count bytes items remaining rest
       → Reads (are_so_many is_value count) (flat_map coding) bytes (Err e) after
-  no_item count bytes items left rest Memory after some h so_far = tt
-  no_item count bytes items left rest Damaged after some h so_far = ends is_value coding count bytes items left rest some h so_far
+  no_item count bytes items remaining rest Memory after some h so_far = tt
+  no_item count bytes items remaining rest Damaged after some h so_far = ends is_value coding count bytes items remaining rest some h so_far
 
 -- two values, one after another, of which one isn't read
 module _ {A B : Type 0} (is_first : A → Type 0) (first : A → List ℕ) (is_second : B → Type 0) (second : B → List ℕ) where
-  pub first_fails : (bytes : List ℕ) (e : Unread) (left : List ℕ) → Reads is_first first bytes (Err e) left
-      → Reads (are_both is_first is_second) (pair_coding first second) bytes (Err e) left
-  first_fails bytes Memory left h = tt
-  first_fails bytes Damaged left h = none_read is_first first (λ _. is_second) (λ _. second) bytes h
+  pub first_fails : (bytes : List ℕ) (e : Unread) (remaining : List ℕ) → Reads is_first first bytes (Err e) remaining
+      → Reads (are_both is_first is_second) (pair_coding first second) bytes (Err e) remaining
+  first_fails bytes Memory remaining h = tt
+  first_fails bytes Damaged remaining h = none_read is_first first (λ _. is_second) (λ _. second) bytes h
 
-  pub second_fails : (bytes : List ℕ) (a : A) (rest : List ℕ) (e : Unread) (left : List ℕ) → IsRead is_first first bytes (Some (a, rest))
-      → Reads is_second second rest (Err e) left → Reads (are_both is_first is_second) (pair_coding first second) bytes (Err e) left
-  second_fails bytes a rest Memory left h k = tt
-  second_fails bytes a rest Damaged left h k = then_read is_first first (λ _. is_second) (λ _. second) bytes a rest None h k
+  pub second_fails : (bytes : List ℕ) (a : A) (rest : List ℕ) (e : Unread) (remaining : List ℕ) → IsRead is_first first bytes (Some (a, rest))
+      → Reads is_second second rest (Err e) remaining → Reads (are_both is_first is_second) (pair_coding first second) bytes (Err e) remaining
+  second_fails bytes a rest Memory remaining h k = tt
+  second_fails bytes a rest Damaged remaining h k = then_read is_first first (λ _. is_second) (λ _. second) bytes a rest None h k
 
-  pub both_read : (bytes : List ℕ) (a : A) (rest : List ℕ) (b : B) (left : List ℕ) → IsRead is_first first bytes (Some (a, rest))
-      → IsRead is_second second rest (Some (b, left)) → IsRead (are_both is_first is_second) (pair_coding first second) bytes (Some ((a, b), left))
-  both_read bytes a rest b left h k = then_read is_first first (λ _. is_second) (λ _. second) bytes a rest (Some (b, left)) h k
+  pub both_read : (bytes : List ℕ) (a : A) (rest : List ℕ) (b : B) (remaining : List ℕ) → IsRead is_first first bytes (Some (a, rest))
+      → IsRead is_second second rest (Some (b, remaining)) → IsRead (are_both is_first is_second) (pair_coding first second) bytes (Some ((a, b), remaining))
+  both_read bytes a rest b remaining h k = then_read is_first first (λ _. is_second) (λ _. second) bytes a rest (Some (b, remaining)) h k
 
 -- the same bytes, seen as another value, which isn't read
 pub fails_as : {A B : Type 0} (is_first : A → Type 0) (first : A → List ℕ) (is_second : B → Type 0) (second : B → List ℕ) (to : A → B) (from : B → A)
     → ((x : A) → is_first x → is_second (to x) × (first x ≡ second (to x)))
     → ((y : B) → is_second y → is_first (from y) × (second y ≡ first (from y)) × (to (from y) ≡ y))
-    → (bytes : List ℕ) (e : Unread) (left : List ℕ) → Reads is_first first bytes (Err e) left → Reads is_second second bytes (Err e) left
-fails_as is_first first is_second second to from there back bytes Memory left h = tt
-fails_as is_first first is_second second to from there back bytes Damaged left h =
+    → (bytes : List ℕ) (e : Unread) (remaining : List ℕ) → Reads is_first first bytes (Err e) remaining → Reads is_second second bytes (Err e) remaining
+fails_as is_first first is_second second to from there back bytes Memory remaining h = tt
+fails_as is_first first is_second second to from there back bytes Damaged remaining h =
     seen_as is_first first is_second second to from there back bytes None h
 
 -- how many values there are, and then these
@@ -58,18 +58,18 @@ module _ {A : Type 0} (is_value : A → Type 0) (coding : A → List ℕ) where
       (λ xs v. ((v.0, (refl, v.1)), refl, refl)) bytes found h
 
   -- they were read, or not
-  pub list_read : (bytes : List ℕ) (count : ℕ) (behind : List ℕ) (r : Result (List A) Unread) (left : List ℕ)
-      → IsRead is_natural natural_coding bytes (Some (count, behind)) → Reads (are_so_many is_value count) (flat_map coding) behind r left
-      → Reads (are_listed is_value) (list_coding coding) bytes r left
-  list_read bytes count behind (Ok xs) left h k =
-      as_list bytes (Some ((count, xs), left))
-      (then_read is_natural natural_coding (are_so_many is_value) (λ n. flat_map coding) bytes count behind (Some (xs, left)) h k)
-  list_read bytes count behind (Err Damaged) left h k =
+  pub list_read : (bytes : List ℕ) (count : ℕ) (behind : List ℕ) (r : Result (List A) Unread) (remaining : List ℕ)
+      → IsRead is_natural natural_coding bytes (Some (count, behind)) → Reads (are_so_many is_value count) (flat_map coding) behind r remaining
+      → Reads (are_listed is_value) (list_coding coding) bytes r remaining
+  list_read bytes count behind (Ok xs) remaining h k =
+      as_list bytes (Some ((count, xs), remaining))
+      (then_read is_natural natural_coding (are_so_many is_value) (λ n. flat_map coding) bytes count behind (Some (xs, remaining)) h k)
+  list_read bytes count behind (Err Damaged) remaining h k =
       as_list bytes None (then_read is_natural natural_coding (are_so_many is_value) (λ n. flat_map coding) bytes count behind None h k)
-  list_read bytes count behind (Err Memory) left h k = tt
+  list_read bytes count behind (Err Memory) remaining h k = tt
 
-  pub no_list : (bytes : List ℕ) (e : Unread) (left : List ℕ) → Reads is_natural natural_coding bytes (Err e) left
-      → Reads (are_listed is_value) (list_coding coding) bytes (Err e) left
-  no_list bytes Memory left h = tt
-  no_list bytes Damaged left h =
+  pub no_list : (bytes : List ℕ) (e : Unread) (remaining : List ℕ) → Reads is_natural natural_coding bytes (Err e) remaining
+      → Reads (are_listed is_value) (list_coding coding) bytes (Err e) remaining
+  no_list bytes Memory remaining h = tt
+  no_list bytes Damaged remaining h =
       as_list bytes None (none_read is_natural natural_coding (are_so_many is_value) (λ n. flat_map coding) bytes h)

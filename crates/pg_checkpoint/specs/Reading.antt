@@ -9,11 +9,11 @@ use Rattle.pg_checkpoint.specs.declared.reading.Unread.TheVariants.{Damaged, Mem
 use Rattle.pg_program.specs.Coding.{IsRead, list_coding, natural_coding, truth_coding}
 use Rattle.pg_program.specs.Plain.{are_both, are_listed, is_byte, is_id}
 
--- a value at the front of the bytes was read, and these are left; or there is none; or memory was refused
+-- a value at the front of the bytes was read, and these remain; or there is none; or memory was refused
 abbrev pub Reads : {A : Type 0} → (A → Type 0) → (A → List ℕ) → List ℕ → Result A Unread → List ℕ → Type 0
-Reads is_value coding bytes (Ok x) left = IsRead is_value coding bytes (Some (x, left))
-Reads is_value coding bytes (Err Damaged) left = IsRead is_value coding bytes None
-Reads is_value coding bytes (Err Memory) left = Unit {0}
+Reads is_value coding bytes (Ok x) remaining = IsRead is_value coding bytes (Some (x, remaining))
+Reads is_value coding bytes (Err Damaged) remaining = IsRead is_value coding bytes None
+Reads is_value coding bytes (Err Memory) remaining = Unit {0}
 
 -- numbers in their ranges
 pub record IsOpening (opening : Opening) : Type 0 where

@@ -36,7 +36,7 @@ module _ {V M : Type 0} where
       keys (from_entries {R = nat_cmp}
       (map (λ id. (id, tt {0})) (map (λ x. x.id) initial ++ flat_map keys_of records)))
 
-  -- their states behind these supersteps: each that which its last record left, or else that with which it began
+  -- their states behind these supersteps: each that of its last record, or else that with which it began
   abbrev pub states_behind : List (VertexState V) → Supersteps V M → List (VertexState V)
   states_behind initial records =
       flat_map (λ id. option_to_list (state_at id (length records) (record { initial = initial; records = records })))

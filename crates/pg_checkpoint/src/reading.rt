@@ -76,7 +76,7 @@ impl<'a> Reader<'a> {
         Reader { rest }
     }
 
-    /// Whether nothing is left.
+    /// Whether nothing remains.
     pub fn is_done(&self) -> bool
         ensures { result ≡ (length self.now == 0) }
     {
@@ -157,11 +157,11 @@ impl<'a> Reader<'a> {
             self.old result self.new }
     {
         let mut records = Sequence::new(alloc);
-        let mut left = count;
-        while left > 0 {
+        let mut remaining = count;
+        while remaining > 0 {
             let record = self.record::<V, M>(alloc)?;
             records.push(record)?;
-            left -= 1;
+            remaining -= 1;
         }
         Ok(records)
     }
@@ -188,11 +188,11 @@ impl<'a> Reader<'a> {
             (flat_map (list_coding (parts_coding V.coding M.coding))) self.old result self.new }
     {
         let mut supersteps = Sequence::new(alloc);
-        let mut left = count;
-        while left > 0 {
+        let mut remaining = count;
+        while remaining > 0 {
             let superstep = self.superstep::<V, M>(alloc)?;
             supersteps.push(superstep)?;
-            left -= 1;
+            remaining -= 1;
         }
         Ok(supersteps)
     }

@@ -151,20 +151,20 @@ module _ {V M : Type 0} (job : Job V M) (rows : Rows) (s : ℕ) (stats : GlobalS
       → counted.sent ≡ capped (before.sent + stats.sent) → counted.dropped ≡ capped (before.dropped + stats.dropped)
       → counted ≡ run_totals_at job rows (s + 1)
   run_totals_next before counted so_far gathered sent dropped = λ i. record {
-    gathered = (gathered ∙ are.left.gathered) i;
+    gathered = (gathered ∙ are.ended.gathered) i;
     sent = (sent ∙ (ap (λ (t : RunTotals). capped (t.sent + stats.sent)) so_far ∙ are.sent)) i;
     dropped = (dropped ∙ (ap (λ (t : RunTotals). capped (t.dropped + stats.dropped)) so_far ∙ are.dropped)) i;
   }
 
   -- what the master shows next
   pub visible_next : visible_in job.deciding (record { vertices = stats.vertices; edges = stats.edges }) (s + 1) stats.gathered ≡ visible_at job rows (s + 1)
-  visible_next = λ i. visible_in job.deciding (are.left.totals i) (s + 1) (are.left.gathered i)
+  visible_next = λ i. visible_in job.deciding (are.ended.totals i) (s + 1) (are.ended.gathered i)
 
   -- whether the run ends with superstep s
   pub ending_next : (halt : Bool) (supersteps limit : ℕ) → halt ≡ (visible_at job rows s).halt → supersteps ≡ s + 1 → limit ≡ job.limit
       → cond halt (Some MasterHalted) (cond stats.is_idle (Some Finished) (cond (supersteps == limit) (Some LimitReached) None)) ≡ ending_after job rows s
   ending_next halt supersteps limit halts many most =
-      λ i. cond (halts i) (Some MasterHalted) (cond (are.left.idle i) (Some Finished) (cond (many i == most i) (Some LimitReached) None))
+      λ i. cond (halts i) (Some MasterHalted) (cond (are.ended.idle i) (Some Finished) (cond (many i == most i) (Some LimitReached) None))
 
 -- what all partitions have come to after superstep s, together, is what that superstep came to
 pub stats_between : {V M : Type 0} (job : Job V M) (rows : Rows) (n : ℕ) → 0 < n → (registered : Registered) → job.aggregators ≡ aggregators_of registered

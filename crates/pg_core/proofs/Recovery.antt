@@ -155,9 +155,9 @@ module _ {V M : Type 0} {limits : Limits} {declared : Declared} {registered regi
     gathered_places = lawful.gathered_places;
   }
 
-  pub IsLawful-lose : (w : ℕ) (left : List (Option (PartState V M))) → is_allowed state (Lose w) ≡ true → AreLost w state parts left
-      → IsLawful limits declared registered registry (after state (Lose w)) (history ++ Lose w ∷ []) left shown run_totals
-  IsLawful-lose w left allowed lost = record {
+  pub IsLawful-lose : (w : ℕ) (remaining : List (Option (PartState V M))) → is_allowed state (Lose w) ≡ true → AreLost w state parts remaining
+      → IsLawful limits declared registered registry (after state (Lose w)) (history ++ Lose w ∷ []) remaining shown run_totals
+  IsLawful-lose w remaining allowed lost = record {
     limits_are = lawful.limits_are;
     registry_is = lawful.registry_is;
     few = lawful.few;
@@ -295,13 +295,13 @@ module _ {P C A V M : Type 0} (job : Job V M) (kept : Option Rows) (core : Progr
     abbrev n : ℕ
     n = core.limits.partitions
 
-    abbrev left : Progress P C A V M
-    left = record (with_event (Lose w) core) { parts = parts; logs = logs }
+    abbrev remaining : Progress P C A V M
+    remaining = record (with_event (Lose w) core) { parts = parts; logs = logs }
 
-    place : (p : ℕ) → place_at p left.state ≡ cond (host_of p core.state == w) None (place_at p core.state)
+    place : (p : ℕ) → place_at p remaining.state ≡ cond (host_of p core.state == w) None (place_at p core.state)
     place p = fell core.limits core.state core.history events w p
 
-    stays : (p : ℕ) → (host_of p core.state == w) ≡ false → place_at p left.state ≡ place_at p core.state
+    stays : (p : ℕ) → (host_of p core.state == w) ≡ false → place_at p remaining.state ≡ place_at p core.state
     stays p other = place p ∙ cond-false _ None (place_at p core.state) other
 
     -- a partition that isn't there has made no superstep
@@ -311,7 +311,7 @@ module _ {P C A V M : Type 0} (job : Job V M) (kept : Option Rows) (core : Progr
         let inside : p < n = omega (arith, some_within core.state.places p r at, length-places_lawful core.limits core.state core.history events) in
         absurd (true≢false (sym (lt-ltb p n inside) ∙ out))
 
-    unsent : (s p q : ℕ) → (is_past s (place_at p left.state) && nat_lt q n) ≡ false → (nat_lt p n && (host_of p core.state == w)) ≡ false
+    unsent : (s p q : ℕ) → (is_past s (place_at p remaining.state) && nat_lt q n) ≡ false → (nat_lt p n && (host_of p core.state == w)) ≡ false
         → (is_past s (place_at p core.state) && nat_lt q n) ≡ false
     unsent s p q not_yet apart =
         elim (and_cases (nat_lt p n) (host_of p core.state == w) apart) [
@@ -319,12 +319,12 @@ module _ {P C A V M : Type 0} (job : Job V M) (kept : Option Rows) (core : Progr
           | inr other ↦ ap (λ r. is_past s r && nat_lt q n) (sym (stays p other)) ∙ not_yet
         ]
 
-    pub IsRight-lose : IsRight job kept left
+    pub IsRight-lose : IsRight job kept remaining
     IsRight-lose = record {
       within = right.within;
       parts = λ p part at. elim (cases_Bool (host_of p core.state == w)) [
         | inl its ↦ absurd (none-some part (sym (lost.are p ∙ cond-true _ None (part_at p core) its) ∙ at))
-        | inr other ↦ subst (λ k. HoldsAt job core.graph k n p (place_at p left.state) part) (kept_more kept core (Lose w) p events other)
+        | inr other ↦ subst (λ k. HoldsAt job core.graph k n p (place_at p remaining.state) part) (kept_more kept core (Lose w) p events other)
             (subst (λ r. HoldsAt job core.graph (keeps p) n p r part) (sym (stays p other))
             (right.parts p part (sym (lost.are p ∙ cond-false _ None (part_at p core) other) ∙ at)))
       ];

@@ -47,8 +47,8 @@ module _ {V M : Type 0} where
       (job : Job V M) → job.program ≡ program → job.missing ≡ missing → job.aggregators ≡ aggregators_of registered
       → (p : ℕ) → p < m → HasBegun job None rows n p (slice_index_or parts p None)
 
-  -- and against the run on the kept rows where this is what its partitions left, all rows but those of the touched ids
-  -- are as they were, and those are the ids that came or went
+  -- and against the run on the kept rows where this is what its partitions retained, all rows but those of the touched
+  -- ids are as they were, and those are the ids that came or went
   abbrev pub HaveBegunWith : Program V M → Missing → Registered → Rows → List ℕ → List ℕ → List (RetainedPartOf V M) → ℕ
       → ℕ → List (Option (PartState V M)) → Type 0
   HaveBegunWith program missing registered rows touched member_changes retained_parts n m parts =

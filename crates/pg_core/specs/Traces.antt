@@ -17,7 +17,7 @@ pub record RetainedRun (V M : Type 0) : Type 0 where
   pub shown : List Visible
   pub values : List (ℕ × V)
 
--- what the partitions left, by partition, the graph, and what all partitions have in common
+-- what the partitions retained, by partition, the graph, and what all partitions have in common
 pub record Traces (V M : Type 0) : Type 0 where
   pub retained_parts : List (RetainedPartOf V M)
   pub graph : Rows
@@ -67,7 +67,7 @@ module _ {V M : Type 0} (job : Job V M) where
     pub graph_is : retained.graph ≡ rows
     pub retained_run : IsRetainedRunOf rows n retained.retained_run
 
--- parts that have ended a run of s supersteps, each against the run that is kept for it, if any, left this, by
+-- parts that have ended a run of s supersteps, each against the run that is kept for it, if any, retained this, by
 -- partition, as far as m partitions
 abbrev pub HaveRetained : {V M : Type 0} → ℕ → List (Option (PartState V M)) → ℕ → List (RetainedPartOf V M) → Type 0
 HaveRetained {V} {M} s parts m retained_parts =

@@ -121,7 +121,7 @@ pub(crate) fn begun_parts<P: Computation>(
 }
 
 /// The parts of all partitions as superstep 0 of a run against an old one begins, and what the old run's partitions
-/// have in common. They take all that the old run left, and ids outside of which the graph's rows are those of its
+/// have in common. They take all that the old run retained, and ids outside of which the graph's rows are those of its
 /// graph. Costs a sort of k such ids, k look-ups for each partition, and a count a superstep of the old run.
 pub(crate) fn begun_parts_warm<P: Computation>(
     alloc: Global,

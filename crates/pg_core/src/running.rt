@@ -130,7 +130,7 @@ impl<'a, P: Computation, C: MessageCombiner<P::Message>, M: MasterCompute> Core<
         ))
     }
 
-    /// A core to which nothing has happened, against an old run over as many partitions: with all that it left, and
+    /// A core to which nothing has happened, against an old run over as many partitions: with all that it retained, and
     /// with ids outside of which the graph's rows are those of its graph. Its partitions execute only what differs from
     /// the old run. Costs a sort of k such ids, k look-ups for each partition, and one count a superstep of the old
     /// run.
@@ -314,7 +314,7 @@ impl<'a, P: Computation, C: MessageCombiner<P::Message>, M: MasterCompute> Core<
     }
 
     /// Takes in a step of a partition: its part, one superstep further, in place of one that is here, and what it sent.
-    /// Bundles to partitions that there aren't are left out. Where memory is refused the core is to be given up.
+    /// Bundles to partitions that there aren't are omitted. Where memory is refused the core is to be given up.
     pub fn stepped(
         &mut self,
         alloc: Global,

@@ -82,25 +82,25 @@ all_both : {X : Type 0} (P Q R : X → Type 0) (xs : List X) → ((x : X) → P 
 all_both P Q R [] f p q = tt
 all_both P Q R (x ∷ xs) f p q = (f x p.0 q.0, all_both P Q R xs f p.1 q.1)
 
-pub record IsTurn (left here later rest : Places) (first : ℕ × Edit) (n : ℕ) : Type 0 where
-  pub next : left ≡ first ∷ rest
-  pub front : here ≡ take n left
-  pub back : later ≡ drop n left
-  pub whole : left ≡ here ++ later
-  pub within : n ≤ length left
-  pub parts : IsPartitionPoint (λ e. leb (source_of e.1) (source_of first.1) ≡ true) (λ e. leb (source_of e.1) (source_of first.1) ≡ false) left n
+pub record IsTurn (remaining here later rest : Places) (first : ℕ × Edit) (n : ℕ) : Type 0 where
+  pub next : remaining ≡ first ∷ rest
+  pub front : here ≡ take n remaining
+  pub back : later ≡ drop n remaining
+  pub whole : remaining ≡ here ++ later
+  pub within : n ≤ length remaining
+  pub parts : IsPartitionPoint (λ e. leb (source_of e.1) (source_of first.1) ≡ true) (λ e. leb (source_of e.1) (source_of first.1) ≡ false) remaining n
 
 -- each turn leaves fewer edits
-pub fewer_left : (left here later rest : Places) (first : ℕ × Edit) (n : ℕ) → IsTurn left here later rest first n → length later < length left
-fewer_left left here later rest first n turn = omega (arith, ap length turn.back, length-drop n left, ap length turn.next, turn.within, some)
+pub fewer_left : (remaining here later rest : Places) (first : ℕ × Edit) (n : ℕ) → IsTurn remaining here later rest first n → length later < length remaining
+fewer_left remaining here later rest first n turn = omega (arith, ap length turn.back, length-drop n remaining, ap length turn.next, turn.within, some)
   where
-    at_first : get_or left 0 first ≡ first
+    at_first : get_or remaining 0 first ≡ first
     at_first = ap (λ l. get_or l 0 first) turn.next
 
     none : n ≡ 0 → ⊥
     none e =
-        let there : 0 < length left = omega (arith, ap length turn.next) in
-        let above = leb-false (source_of (get_or left 0 first).1) (source_of first.1) (turn.parts.1 0 first (omega (arith, e)) there) in
+        let there : 0 < length remaining = omega (arith, ap length turn.next) in
+        let above = leb-false (source_of (get_or remaining 0 first).1) (source_of first.1) (turn.parts.1 0 first (omega (arith, e)) there) in
         omega (arith, above, ap (λ x. source_of x.1) at_first)
 
     some : 0 < n
@@ -110,20 +110,20 @@ fewer_left left here later rest first n turn = omega (arith, ap length turn.back
         by zero e = absurd (none e)
         by (suc k) e = omega (arith, e)
 
-module _ (rows : Rows) (all left here later rest : Places) (first : ℕ × Edit) (n : ℕ) (changes : RowChanges) (fault : Option EditFault)
-    (turn : IsTurn left here later rest first n) (dealt : AreDealt rows all left changes fault) where
+module _ (rows : Rows) (all remaining here later rest : Places) (first : ℕ × Edit) (n : ℕ) (changes : RowChanges) (fault : Option EditFault)
+    (turn : IsTurn remaining here later rest first n) (dealt : AreDealt rows all remaining changes fault) where
   abbrev id : ℕ
   id = source_of first.1
 
-  lowest : (k : ℕ) (d : ℕ × Edit) → k < length left → id ≤ source_of (get_or left k d).1
-  lowest k d h = subst (λ l. source_of (get_or l 0 d).1 ≤ source_of (get_or left k d).1) turn.next (dealt.left_rise 0 k d (omega arith) h)
+  lowest : (k : ℕ) (d : ℕ × Edit) → k < length remaining → id ≤ source_of (get_or remaining k d).1
+  lowest k d h = subst (λ l. source_of (get_or l 0 d).1 ≤ source_of (get_or remaining k d).1) turn.next (dealt.left_rise 0 k d (omega arith) h)
 
-  split : AllByRecursion (λ e. source_of e.1 ≡ id) (take n left) × AllByRecursion (λ e. id < source_of e.1) (drop n left)
+  split : AllByRecursion (λ e. source_of e.1 ≡ id) (take n remaining) × AllByRecursion (λ e. id < source_of e.1) (drop n remaining)
   split =
-      split_all (λ e. source_of e.1 ≡ id) (λ e. id < source_of e.1) left n turn.within
-      (λ k d h. let low = leb-true (source_of (get_or left k d).1) id (turn.parts.0 k d (omega arith) h) in
+      split_all (λ e. source_of e.1 ≡ id) (λ e. id < source_of e.1) remaining n turn.within
+      (λ k d h. let low = leb-true (source_of (get_or remaining k d).1) id (turn.parts.0 k d (omega arith) h) in
       let high = lowest k d (omega (arith, turn.within)) in omega arith)
-      (λ k d h g. leb-false (source_of (get_or left k d).1) id (turn.parts.1 k d h g))
+      (λ k d h g. leb-false (source_of (get_or remaining k d).1) id (turn.parts.1 k d h g))
 
   here_of : AllByRecursion (λ e. source_of e.1 ≡ id) here
   here_of = subst (AllByRecursion (λ e. source_of e.1 ≡ id)) (sym turn.front) split.0
@@ -131,25 +131,25 @@ module _ (rows : Rows) (all left here later rest : Places) (first : ℕ × Edit)
   later_above : AllByRecursion (λ e. id < source_of e.1) later
   later_above = subst (AllByRecursion (λ e. id < source_of e.1)) (sym turn.back) split.1
 
-  in_parts : (q : ℕ) → edits_of q left ≡ edits_of q here ++ edits_of q later
+  in_parts : (q : ℕ) → edits_of q remaining ≡ edits_of q here ++ edits_of q later
   in_parts q = ap (edits_of q) turn.whole ∙ filter-append (is_of q) here later
 
   none_later : (q : ℕ) → q ≡ id → edits_of q later ≡ []
   none_later q same = none_of q later (all_map (λ e. id < source_of e.1) (λ e. q ≡ source_of e.1 → ⊥) later (λ e above at. omega arith) later_above)
 
-  all_here : (q : ℕ) → q ≡ id → edits_of q left ≡ here
+  all_here : (q : ℕ) → q ≡ id → edits_of q remaining ≡ here
   all_here q same = in_parts q ∙ ap (λ l. l ++ edits_of q later) (only id q here same here_of) ∙ ap (λ l. here ++ l) (none_later q same) ∙ append-nil here
 
-  same_later : (q : ℕ) → (q ≡ id → ⊥) → edits_of q left ≡ edits_of q later
+  same_later : (q : ℕ) → (q ≡ id → ⊥) → edits_of q remaining ≡ edits_of q later
   same_later q apart = in_parts q
       ∙ ap (λ l. l ++ edits_of q later)
       (none_of q here (all_map (λ e. source_of e.1 ≡ id) (λ e. q ≡ source_of e.1 → ⊥) here (λ e is at. apart (at ∙ is)) here_of))
 
-  not_done : edits_of id left ≡ [] → ⊥
+  not_done : edits_of id remaining ≡ [] → ⊥
   not_done none = let h : first ∷ edits_of id rest ≡ [] = sym (ap (edits_of id) turn.next ∙ of_same id first.0 first.1 rest refl) ∙ none in cc
 
-  is_left : IsRest id all left changes
-  is_left = ⊎_elim (λ (l : IsRest id all left changes). l) (λ (d : IsDone rows id all left changes fault). absurd (not_done d.edits)) (dealt.seen id)
+  is_left : IsRest id all remaining changes
+  is_left = ⊎_elim (λ (l : IsRest id all remaining changes). l) (λ (d : IsDone rows id all remaining changes fault). absurd (not_done d.edits)) (dealt.seen id)
 
   pub not_changed : value_at id changes ≡ None
   not_changed = is_left.change
@@ -161,7 +161,7 @@ module _ (rows : Rows) (all left here later rest : Places) (first : ℕ × Edit)
   none_yet q same = ap (λ k. value_at k changes) same ∙ is_left.change
 
   later_rise : RiseBySource later
-  later_rise = subst RiseBySource (sym turn.back) (IsNonDecreasingBy-drop (λ e. source_of e.1) n left dealt.left_rise)
+  later_rise = subst RiseBySource (sym turn.back) (IsNonDecreasingBy-drop (λ e. source_of e.1) n remaining dealt.left_rise)
 
   below_later : AllByRecursion (λ e. AllByRecursion (λ c. c.0 < source_of e.1) changes) later
   below_later = all_drop (λ e. AllByRecursion (λ c. c.0 < source_of e.1) changes) here later
@@ -196,8 +196,8 @@ module _ (rows : Rows) (all left here later rest : Places) (first : ℕ × Edit)
                 (made ∙ ap (λ k. vertex_after (row_at k rows) here) (sym same) ∙ ap (vertex_after (row_at q rows)) (here_is q same)) (at_id q same);
           }))
           (λ (apart : q ≡ id → ⊥). ⊎_elim
-          (λ (l : IsRest q all left changes). inl (record { edits = sym (same_later q apart) ∙ l.edits; change = elsewhere q apart ∙ l.change }))
-          (λ (d : IsDone rows q all left changes fault). inr (record {
+          (λ (l : IsRest q all remaining changes). inl (record { edits = sym (same_later q apart) ∙ l.edits; change = elsewhere q apart ∙ l.change }))
+          (λ (d : IsDone rows q all remaining changes fault). inr (record {
             edits = sym (same_later q apart) ∙ d.edits;
             rises = d.rises;
             stated = still q (vertex_after (row_at q rows) (edits_of q all)) (elsewhere q apart) d.stated;
@@ -228,8 +228,8 @@ module _ (rows : Rows) (all left here later rest : Places) (first : ℕ × Edit)
                 (earlier_found fault found);
           }))
           (λ (apart : q ≡ id → ⊥). ⊎_elim
-          (λ (l : IsRest q all left changes). inl (record { edits = sym (same_later q apart) ∙ l.edits; change = l.change }))
-          (λ (d : IsDone rows q all left changes fault). inr (record {
+          (λ (l : IsRest q all remaining changes). inl (record { edits = sym (same_later q apart) ∙ l.edits; change = l.change }))
+          (λ (d : IsDone rows q all remaining changes fault). inr (record {
             edits = sym (same_later q apart) ∙ d.edits;
             rises = d.rises;
             stated = still q (vertex_after (row_at q rows) (edits_of q all)) d.stated;
@@ -265,16 +265,16 @@ none_dealt rows all changes none rising rise = record {
     nothing [] = tt
     nothing (e ∷ l) = (subst (AllByRecursion (λ c. c.0 < source_of e.1)) (sym none) tt, nothing l)
 
-module _ (rows : Rows) (all left : Places) (changes : RowChanges) (empty : left ≡ []) where
-  untouched : (q : ℕ) → edits_of q left ≡ edits_of q all → vertex_after (row_at q rows) (edits_of q all) ≡ Ok (row_at q rows)
+module _ (rows : Rows) (all remaining : Places) (changes : RowChanges) (empty : remaining ≡ []) where
+  untouched : (q : ℕ) → edits_of q remaining ≡ edits_of q all → vertex_after (row_at q rows) (edits_of q all) ≡ Ok (row_at q rows)
   untouched q same = ap (vertex_after (row_at q rows)) (sym same ∙ ap (edits_of q) empty)
 
-  pub all_made : AreDealt rows all left changes None → AreMade rows all changes
+  pub all_made : AreDealt rows all remaining changes None → AreMade rows all changes
   all_made dealt = record {
     rise = dealt.changes_rise;
     stated = λ q. ⊎_elim
-        (λ (l : IsRest q all left changes). untouched q l.edits ∙ ap (λ o. Ok (unwrap_or o (row_at q rows))) (sym l.change))
-        (λ (d : IsDone rows q all left changes None). by q (vertex_after (row_at q rows) (edits_of q all)) d.stated)
+        (λ (l : IsRest q all remaining changes). untouched q l.edits ∙ ap (λ o. Ok (unwrap_or o (row_at q rows))) (sym l.change))
+        (λ (d : IsDone rows q all remaining changes None). by q (vertex_after (row_at q rows) (edits_of q all)) d.stated)
         (dealt.seen q);
   }
     where

@@ -37,24 +37,25 @@ abbrev pub IsNoLater : Option EditFault → EditFault → Type 0
 IsNoLater None other = ⊥
 IsNoLater (Some fault) other = fault.position ≤ other.position
 
--- the edits of a vertex are all left
-pub record IsRest (q : ℕ) (all left : Places) (changes : RowChanges) : Type 0 where
-  pub edits : edits_of q left ≡ edits_of q all
+-- the edits of a vertex all remain
+pub record IsRest (q : ℕ) (all remaining : Places) (changes : RowChanges) : Type 0 where
+  pub edits : edits_of q remaining ≡ edits_of q all
   pub change : value_at q changes ≡ None
 
 -- or none is, and what they make is among the changes, or a fault
-pub record IsDone (rows : Rows) (q : ℕ) (all left : Places) (changes : RowChanges)
+pub record IsDone (rows : Rows) (q : ℕ) (all remaining : Places) (changes : RowChanges)
     (fault : Option EditFault) : Type 0 where
-  pub edits : edits_of q left ≡ []
+  pub edits : edits_of q remaining ≡ []
   pub rises : RowRises (row_at q rows)
   pub stated : MatchResult (vertex_after (row_at q rows) (edits_of q all)) (λ row. value_at q changes ≡ Some row)
       (IsNoLater fault)
 
-pub record AreDealt (rows : Rows) (all left : Places) (changes : RowChanges) (fault : Option EditFault) : Type 0 where
-  pub left_rise : RiseBySource left
+pub record AreDealt (rows : Rows) (all remaining : Places) (changes : RowChanges)
+    (fault : Option EditFault) : Type 0 where
+  pub left_rise : RiseBySource remaining
   pub changes_rise : ChangesRise changes
-  pub below : AllByRecursion (λ e. AllByRecursion (λ c. c.0 < source_of e.1) changes) left
-  pub seen : (q : ℕ) → IsRest q all left changes ⊎ IsDone rows q all left changes fault
+  pub below : AllByRecursion (λ e. AllByRecursion (λ c. c.0 < source_of e.1) changes) remaining
+  pub seen : (q : ℕ) → IsRest q all remaining changes ⊎ IsDone rows q all remaining changes fault
   pub found : MatchOption fault (Unit {0}) (λ f. (q : ℕ) × (vertex_after (row_at q rows) (edits_of q all) ≡ Err f))
 
 -- of two faults the earlier one, if there is a first

@@ -83,7 +83,7 @@ impl Graph {
         }
     }
 
-    /// The first id and the last of the graph, if none between them is left out.
+    /// The first id and the last of the graph, if none between them is omitted.
     fn contiguous_range(&self) -> Option<(VertexId, VertexId)>
         ensures { IfSome result (λ s. (id : ℕ) → s.0 ≤ id → id ≤ s.1 → IsSome (row_at id self.now)) }
     {

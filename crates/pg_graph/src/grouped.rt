@@ -17,6 +17,7 @@ ghost use Rattle.pg_graph.specs.Rows.{HasRisingIds, edge_count, vertex_count};
 use crate::draft::RowChanges;
 use crate::{Batch, Edit, EditFault, Graph, Memory, Row, VertexId};
 use pg_graph_rows::ChangedRows;
+use pg_map::is_at_most;
 use pg_sort::sorted_by_id;
 use std::alloc::{AllocError, Global};
 
@@ -92,17 +93,17 @@ fn dealt_with(
     let mut cursor = graph.cursor();
     let mut edges = graph.edges();
     let mut fault = None;
-    let mut left = edits;
-    while let Some((first, _)) = left.split_first() {
+    let mut remaining = edits;
+    while let Some((first, _)) = remaining.split_first() {
         let id = first.1.source();
-        let (here, later) = left.split_at(count_of(left, id));
+        let (here, later) = remaining.split_at(count_of(remaining, id));
         let row = cursor.get(id);
         let had = degree_of(row);
         match rows.edit(alloc, id, row, here)? {
             Ok(degree) => edges = edges_with(edges, had, degree)?,
             Err(found) => fault = Some(earlier(fault, found)),
         }
-        left = later;
+        remaining = later;
     }
     match fault {
         Some(fault) => Ok(Err(fault)),
@@ -146,13 +147,6 @@ fn count_of(edits: &[(u64, Edit)], id: VertexId) -> usize
         }
     }
     edits.len()
-}
-
-/// Whether an id is below another, or is it.
-fn is_at_most(id: VertexId, other: VertexId) -> bool
-    ensures { result ≡ nat_le id other }
-{
-    id <= other
 }
 
 /// The earlier of two faults, where there is a first.

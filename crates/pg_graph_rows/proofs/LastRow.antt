@@ -150,7 +150,7 @@ one_taken draft edits i {edit} within is made =
 -- after so many edits a row lies behind, of which the others make what all make of the first
 pub record IsEdited (row : Option Row) (edits : Places) (i : ℕ) (front : EdgeList) (input : Option ℤ) (list : EdgeList) : Type 0 where
   pub now : Option Row
-  pub left : vertex_after now (drop i edits) ≡ vertex_after row edits
+  pub remaining : vertex_after now (drop i edits) ≡ vertex_after row edits
   pub lies : LiesBehind front now input list
 
 module _ (row : Option Row) (edits : Places) (i : ℕ) (front : EdgeList) (first : ℕ) (input : Option ℤ) (list : EdgeList) (long : first ≡ length front)
@@ -159,20 +159,20 @@ module _ (row : Option Row) (edits : Places) (i : ℕ) (front : EdgeList) (first
   first_within = omega (arith, long, ap length so_far.lies.whole, length-append front so_far.lies.last)
 
   pub edited_all : length edits ≤ i → (made : Option Row) × (vertex_after row edits ≡ Ok made) × LiesBehind front made input list
-  edited_all past = (so_far.now, sym (ap (vertex_after so_far.now) (sym (drop_all i edits past)) ∙ so_far.left), so_far.lies)
+  edited_all past = (so_far.now, sym (ap (vertex_after so_far.now) (sym (drop_all i edits past)) ∙ so_far.remaining), so_far.lies)
 
   module _ {edit : ℕ × Edit} (within : i < length edits) (is : edit ≡ get_or edits i edit) (input' : Option ℤ) (list' : EdgeList)
       (stated : Result (Unit {0}) EditKind) (behind : EditedBehind so_far.now edit.1 front input' list' stated) where
     pub one_more : (done : Unit {0}) → stated ≡ Ok done → IsEdited row edits (i + 1) front input' list'
     one_more done ok =
         let made = subst (EditedBehind so_far.now edit.1 front input' list') ok behind in
-        record { now = made.0; left = one_taken so_far.now edits i within is made.1 ∙ so_far.left; lies = made.2 }
+        record { now = made.0; remaining = one_taken so_far.now edits i within is made.1 ∙ so_far.remaining; lies = made.2 }
 
     pub refused : (kind : EditKind) (after : EdgeList) → stated ≡ Err kind → after ≡ take first list'
         → (vertex_after row edits ≡ Err (record { position = edit.0; kind = kind })) × (after ≡ front)
     refused kind after err is_front =
         let made = subst (EditedBehind so_far.now edit.1 front input' list') err behind in (
-          sym (one_taken so_far.now edits i within is made.0 ∙ so_far.left),
+          sym (one_taken so_far.now edits i within is made.0 ∙ so_far.remaining),
           is_front ∙ ap (take first) made.1.1 ∙ ap (λ n. take n (front ++ made.1.0)) long ∙ take-append_seam front made.1.0,
         )
 

@@ -14,8 +14,8 @@ use Rattle.pg_map.proofs.Moved.{first_of_rest, moved_one, moved_all}
 part_stays : (first degree : ℕ) (edges more : EdgeList) → first + degree ≤ length edges
     → part_of first degree (edges ++ more) ≡ part_of first degree edges
 part_stays first degree edges more within =
-    let left : degree ≤ length (drop first edges) = omega (arith, length-drop first edges) in
-    ap (take degree) (drop-append-le first edges more (omega arith)) ∙ take-append-le degree (drop first edges) more left
+    let remaining : degree ≤ length (drop first edges) = omega (arith, length-drop first edges) in
+    ap (take degree) (drop-append-le first edges more (omega arith)) ∙ take-append-le degree (drop first edges) more remaining
 
 is_part_stays : (first degree : ℕ) (edges more : EdgeList) → IsPart first degree edges → IsPart first degree (edges ++ more)
 is_part_stays first degree edges more part = record {

@@ -51,7 +51,7 @@ impl Model for ChangedRows {
 
 impl ChangedRows {
     /// None yet, with room for so many. With `gathers` the edges of rows are gathered in common lists. Such a list
-    /// stays until none of its rows is left, so this is for changes of many rows, which lead to rows being laid anew
+    /// stays until none of its rows remains, so this is for changes of many rows, which lead to rows being laid anew
     /// before long.
     pub fn new(alloc: Global, rows: usize, gathers: bool) -> Result<ChangedRows, Memory>
         ensures { IfOk result (λ changed. changed ≡ []) }

@@ -20,7 +20,7 @@ pub batch_of-more : (lines : List Line) (line : Line) (i : ℕ) (before : Rows) 
     (with_ends line before) ∷ []) ++ batch_of (drop (i + 1) lines) (with_line line before) ≡ whole
 unfolding batch_of
 batch_of-more lines line i before so_far whole inside is had =
-    let next = rw (← is) at (at_drop_more (λ left. so_far ++ batch_of left before) lines i line inside) in
+    let next = rw (← is) at (at_drop_more (λ unread. so_far ++ batch_of unread before) lines i line inside) in
     simp append_assoc (sym (simp append_assoc at next) ∙ had)
 
 -- the batch is whole once no line is left

@@ -109,13 +109,13 @@ line_of-returned line = rw (last_stripped 10 (line ++ 13 ∷ []) refl) (last_str
 module _ (text line after rest : List ℕ) (edge : Line) (whole : text ≡ line ++ after) (all : list_all is_plain line ≡ true)
     (some : 0 < length line) (says : reading_of (words_of line) ≡ Ok (Some edge)) where
   at_end : after ≡ [] → rest ≡ [] → (b : ℕ) (others : List ℕ) → line ≡ b ∷ others → ReadsLine text (Ok (Some edge)) rest
-  at_end none left b others is =
+  at_end none unread b others is =
       let same : text ≡ b ∷ others = whole ∙ rw none (append-nil line) ∙ is in
       record {
         raw = b ∷ others;
-        lines = rw (same, left) (raw_lines-last b others (plain_are_other (b ∷ others) (rw is at all)));
+        lines = rw (same, unread) (raw_lines-last b others (plain_are_other (b ∷ others) (rw is at all)));
         reads = rw (line_of-plain (b ∷ others) (rw is at all)) (sym (rw is at says));
-        shorter = rw (same, left) (omega arith);
+        shorter = rw (same, unread) (omega arith);
       }
 
   at_feed : after ≡ 10 ∷ rest → ReadsLine text (Ok (Some edge)) rest
@@ -138,8 +138,8 @@ module _ (text line after rest : List ℕ) (edge : Line) (whole : text ≡ line 
       }
 
   some_line : (xs : List ℕ) → line ≡ xs → after ≡ [] → rest ≡ [] → ReadsLine text (Ok (Some edge)) rest
-  some_line [] is none left = absurd (omega (arith, some, ap length is))
-  some_line (b ∷ others) is none left = at_end none left b others is
+  some_line [] is none unread = absurd (omega (arith, some, ap length is))
+  some_line (b ∷ others) is none unread = at_end none unread b others is
 
   reads : IsAfterLine after rest → ReadsLine text (Ok (Some edge)) rest
   reads end = ⊎_elim (λ none. some_line line refl none.0 none.1) (λ more. ⊎_elim at_feed at_return more) end

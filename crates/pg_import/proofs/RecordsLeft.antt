@@ -119,9 +119,9 @@ took_next : {R : Type 0} (rem : R → Option (List ℕ)) (a b : Reader R) (field
     → Ready b → b.config ≡ a.config → b.trim ≡ a.trim → source_of rem b ≡ Some z
     → next_record default_config a.state [] [] (bytes_left rem a) ≡ Some p → fields ≡ p.0 → p.1 ≡ b.state → p.2 ≡ z → TakesRecord rem a b fields
 unfolding records_left
-took_next rem a b fields z p at ready config trim left next is state rest =
+took_next rem a b fields z p at ready config trim unread next is state rest =
     let more = records_from-some a.state (bytes_left rem a) p at.between next in
-    let bytes : bytes_left rem b ≡ p.2 = rw left (sym rest) in
+    let bytes : bytes_left rem b ≡ p.2 = rw unread (sym rest) in
     record {
       first = rw (bytes, is, ← state) more.0;
       fewer = rw bytes more.1;
@@ -129,7 +129,7 @@ took_next rem a b fields z p at ready config trim left next is state rest =
         config = config ∙ at.config;
         trim = trim ∙ at.trim;
         ready = ready;
-        known = left ∙ ap Some (sym rest ∙ sym bytes);
+        known = unread ∙ ap Some (sym rest ∙ sym bytes);
         between = rw (← state) more.2;
       };
     }
@@ -139,9 +139,9 @@ pub takes_record : {R : Type 0} (rem : R → Option (List ℕ)) (a b : Reader R)
     → ReadRecord rem a b true fields → TakesRecord rem a b fields
 unfolding Reached
 takes_record rem a b fields at ready read =
-    let (z, left, (p, next, is, (state, rest))) =
+    let (z, unread, (p, next, is, (state, rest))) =
     rows-more rem a b fields default_config a.state (bytes_left rem a) (bytes_left rem a) [] at.config at.known (refl, refl) read in
-    took_next rem a b fields z p at ready read.2 read.3 left next is state rest
+    took_next rem a b fields z p at ready read.2 read.3 unread next is state rest
 
 -- a read that found none had none left
 pub records_left-none : {R : Type 0} (rem : R → Option (List ℕ)) (a b : Reader R) (fields : List (List ℕ)) → IsBetweenRecords rem a

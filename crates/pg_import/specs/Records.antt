@@ -1,4 +1,4 @@
--- What a reader of records has left.
+-- What a reader of records has not read yet.
 use Rattle.std.specs.Prelude.{◌≡◌, ℕ, ◌+◌, ◌<◌, false, List, [], ◌∷◌, length, Option, Some, unwrap_or}
 use Rattle.csv.specs.Machine.{ends_at_end}
 use Rattle.csv.specs.Reading.{Ready, default_config, reader_config, reader_state, reader_trim, records_from, source_of}
@@ -6,11 +6,11 @@ use Rattle.csv.specs.declared.reader.Reader.{Reader}
 use Rattle.csv.specs.declared.reader.Trim.TheVariants as trim
 
 module _ {R : Type 0} (remaining : R → Option (List ℕ)) where
-  -- the bytes that a reader has left
+  -- the bytes that a reader has not read yet
   abbrev pub bytes_left : Reader R → List ℕ
   bytes_left reader = unwrap_or (source_of remaining reader) []
 
-  -- the records that it has left
+  -- the records that it has not read yet
   unfoldable pub records_left : Reader R → List (List (List ℕ))
   records_left reader = records_from default_config (length (bytes_left reader) + 1) (reader_state reader)
       (bytes_left reader)

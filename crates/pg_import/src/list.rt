@@ -27,12 +27,12 @@ pub fn read_list(alloc: Global, text: &[u8]) -> Result<Vec<Line>, ImportFault>
         return Err(ImportFault::NO_MEMORY);
     };
     let mut number = 0;
-    let mut left = text;
-    while !left.is_empty() {
+    let mut unread = text;
+    while !unread.is_empty() {
         number += 1;
-        let (reading, rest) = first_line(left);
+        let (reading, rest) = first_line(unread);
         add_reading(&mut lines, number, reading)?;
-        left = rest;
+        unread = rest;
     }
     Ok(lines)
 }

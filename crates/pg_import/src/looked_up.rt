@@ -50,8 +50,8 @@ impl<'a> LookedUp<'a> {
         })
     }
 
-    /// Looks up a vertex, which is the last one or comes after it. One that the graph has is left out, and the
-    /// answer is `None`; of another it is where it stands. One that comes before is left out, and the answer is the
+    /// Looks up a vertex, which is the last one or comes after it. One that the graph has is omitted, and the
+    /// answer is `None`; of another it is where it stands. One that comes before is omitted, and the answer is the
     /// last place.
     pub(crate) fn add_vertex(&mut self, id: VertexId) -> Result<Option<u32>, Memory>
         ensures there { IfOk result (λ place. IsNone place → has_vertex id self.old ≡ true) }
@@ -76,7 +76,7 @@ impl<'a> LookedUp<'a> {
         self.add_vertex(id)
     }
 
-    /// Adds an edge, which is the last one or comes after it, and says where it stands. One that comes before is left
+    /// Adds an edge, which is the last one or comes after it, and says where it stands. One that comes before is
     /// out, and the answer is the last place. It costs no look-up among the rows where sources come in the order in
     /// which they were added.
     pub(crate) fn add_edge(&mut self, source: VertexId, target: VertexId) -> Result<u32, Memory>

@@ -217,15 +217,15 @@ impl Ranks {
             → EndsAreKnown looked_up.old lines self.new) }
         ensures same { looked_up.new ≡ looked_up.old }
     {
-        let mut left = targets.as_slice();
+        let mut unread = targets.as_slice();
         for (place, id) in sources {
-            left = self.targets.look_up_to(looked_up, left, id.number())?;
+            unread = self.targets.look_up_to(looked_up, unread, id.number())?;
             let rank = EndRank {
                 rank: looked_up.add_source(*id)?,
             };
             self.sources.set(*place, rank);
         }
-        self.targets.look_up_to(looked_up, left, u64::MAX)?;
+        self.targets.look_up_to(looked_up, unread, u64::MAX)?;
         Ok(())
     }
 

@@ -15,7 +15,7 @@ pub fn bare_line(raw: &[u8]) -> &[u8]
 }
 
 /// The words of a line, which blanks and tabs stand between. A contract sees the list of those that
-/// are left.
+/// remain.
 ///
 /// All of them together cost as much as one walk over the line, and take no memory.
 #[derive(Drop)]

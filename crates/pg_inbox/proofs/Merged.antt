@@ -223,18 +223,18 @@ module _ {X : Type 0} where
 
 module _ {M : Type 0} (lists : List (List (ℕ × (ℕ × M)))) where
   abbrev IsMade : List (List (ℕ × (ℕ × M))) → List (ℕ × List M) → ℕ → Type 0
-  IsMade left inboxes id = (all_to id left ≡ []) × (value_at id inboxes ≡ inbox_by_sender (all_to id lists))
+  IsMade remaining inboxes id = (all_to id remaining ≡ []) × (value_at id inboxes ≡ inbox_by_sender (all_to id lists))
 
   abbrev IsToCome : List (List (ℕ × (ℕ × M))) → List (ℕ × List M) → ℕ → Type 0
-  IsToCome left inboxes id = (all_to id left ≡ all_to id lists) × (value_at id inboxes ≡ None)
+  IsToCome remaining inboxes id = (all_to id remaining ≡ all_to id lists) × (value_at id inboxes ≡ None)
 
   -- the targets below a bound have their inboxes, and all envelopes to the others are left
-  pub record AreMergedSoFar (left : List (List (ℕ × (ℕ × M)))) (inboxes : List (ℕ × List M)) : Type 0 where
+  pub record AreMergedSoFar (remaining : List (List (ℕ × (ℕ × M)))) (inboxes : List (ℕ × List M)) : Type 0 where
     pub bound : ℕ
     pub below : Below bound inboxes
-    pub from : StandFrom bound left
+    pub from : StandFrom bound remaining
     pub rise : HasRisingIds inboxes
-    pub each : (id : ℕ) → IsMade left inboxes id ⊎ IsToCome left inboxes id
+    pub each : (id : ℕ) → IsMade remaining inboxes id ⊎ IsToCome remaining inboxes id
 
   pub merged_none : StandByTarget lists → AreMergedSoFar lists []
   merged_none stand = record {
@@ -249,28 +249,28 @@ module _ {M : Type 0} (lists : List (List (ℕ × (ℕ × M)))) where
       all_from_zero [] = tt
       all_from_zero (i ∷ l) = (omega arith, all_from_zero l)
 
-  pub merged_more : (left : List (List (ℕ × (ℕ × M)))) (inboxes : List (ℕ × List M)) (target : ℕ) → AreMergedSoFar left inboxes
-      → IsLowest left target → AreMergedSoFar (lists_after target left) (inboxes ++ (target, messages (in_order (all_to target left))) ∷ [])
-  merged_more left inboxes target so_far lowest = record {
+  pub merged_more : (remaining : List (List (ℕ × (ℕ × M)))) (inboxes : List (ℕ × List M)) (target : ℕ) → AreMergedSoFar remaining inboxes
+      → IsLowest remaining target → AreMergedSoFar (lists_after target remaining) (inboxes ++ (target, messages (in_order (all_to target remaining))) ∷ [])
+  merged_more remaining inboxes target so_far lowest = record {
     bound = target + 1;
     below = all-append (λ e. e.0 < target + 1) inboxes ((target, made) ∷ [])
         (all_weaker (λ e. e.0 < so_far.bound) (λ e. e.0 < target + 1) (λ e h. omega (arith, h, not_below)) inboxes so_far.below) (omega arith, tt);
-    from = after_from target left lowest.from;
+    from = after_from target remaining lowest.from;
     rise = rises_push inboxes target made so_far.rise below;
     each = λ id. by id (same_or_not target id);
   }
     where
       made : List M
-      made = messages (in_order (all_to target left))
+      made = messages (in_order (all_to target remaining))
 
       not_below : so_far.bound ≤ target
-      not_below = low so_far.bound target left so_far.from lowest.some
+      not_below = low so_far.bound target remaining so_far.from lowest.some
 
       below : Below target inboxes
       below = all_weaker (λ e. e.0 < so_far.bound) (λ e. e.0 < target) (λ e h. omega (arith, h, not_below)) inboxes so_far.below
 
       after : List (List (ℕ × (ℕ × M)))
-      after = lists_after target left
+      after = lists_after target remaining
 
       more : List (ℕ × List M)
       more = inboxes ++ (target, made) ∷ []
@@ -280,7 +280,7 @@ module _ {M : Type 0} (lists : List (List (ℕ × (ℕ × M)))) where
           find-right target inboxes ((target, made) ∷ []) (none_below target target inboxes (omega arith) below)
           ∙ ap (λ t. cond t (Some made) None) (at_same target)
 
-      made_of : IsMade left inboxes target ⊎ IsToCome left inboxes target → all_to target left ≡ all_to target lists
+      made_of : IsMade remaining inboxes target ⊎ IsToCome remaining inboxes target → all_to target remaining ≡ all_to target lists
       made_of (inl h) = absurd (true≢false (sym (ap is_empty h.0) ∙ lowest.some))
       made_of (inr h) = h.0
 
@@ -288,27 +288,27 @@ module _ {M : Type 0} (lists : List (List (ℕ × (ℕ × M)))) where
       other id apart =
           find-left id inboxes ((target, made) ∷ []) (ap (λ t. cond t (Some made) None) (at_other id target (λ same. apart (sym same))))
 
-      still : (id : ℕ) → (target ≡ id → ⊥) → IsMade left inboxes id ⊎ IsToCome left inboxes id → IsMade after more id ⊎ IsToCome after more id
-      still id apart (inl h) = inl (others_after target id (not_same target id apart) left ∙ h.0, other id apart ∙ h.1)
-      still id apart (inr h) = inr (others_after target id (not_same target id apart) left ∙ h.0, other id apart ∙ h.1)
+      still : (id : ℕ) → (target ≡ id → ⊥) → IsMade remaining inboxes id ⊎ IsToCome remaining inboxes id → IsMade after more id ⊎ IsToCome after more id
+      still id apart (inl h) = inl (others_after target id (not_same target id apart) remaining ∙ h.0, other id apart ∙ h.1)
+      still id apart (inr h) = inr (others_after target id (not_same target id apart) remaining ∙ h.0, other id apart ∙ h.1)
 
       by : (id : ℕ) → (target ≡ id) ⊎ (target ≡ id → ⊥) → IsMade after more id ⊎ IsToCome after more id
       by id (inl same) =
           subst (λ id. IsMade after more id ⊎ IsToCome after more id) same
           (inl (
-            none_to target after (after_from target left lowest.from),
-            here ∙ sym (ap (option_map (λ l. messages (in_order l))) (any_of_some (all_to target left) lowest.some))
+            none_to target after (after_from target remaining lowest.from),
+            here ∙ sym (ap (option_map (λ l. messages (in_order l))) (any_of_some (all_to target remaining) lowest.some))
                 ∙ ap inbox_by_sender (made_of (so_far.each target)),
           ))
       by id (inr apart) = still id apart (so_far.each id)
 
-  pub merged_all : (left : List (List (ℕ × (ℕ × M)))) (inboxes : List (ℕ × List M)) → AreMergedSoFar left inboxes
-      → AllByRecursion (λ l. l ≡ []) left → AreMerged lists inboxes
-  merged_all left inboxes so_far none = record { rise = so_far.rise; each = λ id. by id (so_far.each id) }
+  pub merged_all : (remaining : List (List (ℕ × (ℕ × M)))) (inboxes : List (ℕ × List M)) → AreMergedSoFar remaining inboxes
+      → AllByRecursion (λ l. l ≡ []) remaining → AreMerged lists inboxes
+  merged_all remaining inboxes so_far none = record { rise = so_far.rise; each = λ id. by id (so_far.each id) }
     where
-      by : (id : ℕ) → IsMade left inboxes id ⊎ IsToCome left inboxes id → value_at id inboxes ≡ inbox_by_sender (all_to id lists)
+      by : (id : ℕ) → IsMade remaining inboxes id ⊎ IsToCome remaining inboxes id → value_at id inboxes ≡ inbox_by_sender (all_to id lists)
       by id (inl h) = h.1
-      by id (inr h) = h.1 ∙ ap inbox_by_sender (sym (none_of_empty id left none) ∙ h.0)
+      by id (inr h) = h.1 ∙ ap inbox_by_sender (sym (none_of_empty id remaining none) ∙ h.0)
 
   -- ---- of bundles in which nothing is changed
 

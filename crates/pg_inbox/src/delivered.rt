@@ -168,7 +168,7 @@ impl<M: Plain> Inboxes<M> {
         Inboxes::ended(messages, parts, id, first)
     }
 
-    /// These inboxes and one of the messages of envelopes, by sender and then in their order. No envelopes are left.
+    /// These inboxes and one of the messages of envelopes, by sender and then in their order. No envelopes remain.
     #[inline(always)]
     pub(crate) fn with_envelopes(
         self,

@@ -1,7 +1,7 @@
 //! The inboxes of a superstep in whose bundles messages lie as they were sent: the lists are merged by target.
 ghost use Rattle.std.specs.Prelude.{◌≡◌, ◌++◌, [], map, IfOk, IfSome, OnOk};
 ghost use Rattle.std.specs.List.Sorted.{IsNonDecreasingBy};
-ghost use Rattle.std.specs.Prelude.{List, ℕ, ◌∷◌, Option, nat_lt};
+ghost use Rattle.std.specs.Prelude.{List, ℕ, ◌∷◌, Option};
 ghost use Rattle.pg_inbox.specs.Merged.{AreMerged, IsLowestOf, StandByTarget, StandFrom, all_to, lists_after};
 ghost use Rattle.pg_inbox_bundles.specs.Sound.{sent_message_lists};
 
@@ -9,6 +9,7 @@ use crate::Inboxes;
 use pg_graph::{Memory, VertexId};
 use pg_inbox_bundles::Bundle;
 use pg_inbox_messages::run_len;
+use pg_map::is_below;
 use pg_program::Plain;
 use std::alloc::Global;
 
@@ -42,10 +43,10 @@ pub(crate) fn inboxes_merged<M: Plain>(
 {
     let count = envelopes_in_all(lists.as_slice());
     let mut inboxes = Inboxes::with_room(alloc, count, count)?;
-    let mut left = lists;
+    let mut remaining = lists;
     let mut envelopes = Vec::new(alloc);
-    while let Some(target) = lowest_target(left.as_slice()) {
-        take_envelopes(alloc, &mut left, target, &mut envelopes)?;
+    while let Some(target) = lowest_target(remaining.as_slice()) {
+        take_envelopes(alloc, &mut remaining, target, &mut envelopes)?;
         inboxes = inboxes.with_envelopes(alloc, target, &mut envelopes)?;
     }
     Ok(inboxes)
@@ -87,13 +88,6 @@ fn lower<M>(lowest: Option<VertexId>, list: &[(VertexId, (VertexId, M))]) -> Opt
         Some(target) if is_below(target, first) => lowest,
         _ => Some(first),
     }
-}
-
-/// Whether an id is below another.
-fn is_below(id: VertexId, other: VertexId) -> bool
-    ensures { result ≡ nat_lt id other }
-{
-    id < other
 }
 
 /// Takes the envelopes to a target from the beginning of each list, where no list has a lower one.

@@ -63,11 +63,11 @@ fn inboxes_sent<M: Plain>(
     ensures { IfOk result (λ inboxes. inboxes ≡ each_inbox (sent_message_lists envelopes.now)) }
 {
     let mut inboxes = Inboxes::with_room(alloc, envelopes.len(), envelopes.len())?;
-    let mut left = envelopes;
-    while let Some((target, here, later)) = first_group(left) {
+    let mut remaining = envelopes;
+    while let Some((target, here, later)) = first_group(remaining) {
         let message_list = MessageListRef::of_sent(here);
         inboxes = inboxes.with_message_list(alloc, target, &message_list)?;
-        left = later;
+        remaining = later;
     }
     Ok(inboxes)
 }
@@ -136,8 +136,8 @@ fn inboxes_of<M: Plain, C: MessageCombiner<M>>(
     let mut inboxes = Inboxes::new(alloc, message_lists.len())?;
     let mut done = 0;
     while done < message_lists.len() {
-        let (_, left) = message_lists.split_at(done);
-        let (more, count) = with_first(alloc, inboxes, left, combiner)?;
+        let (_, remaining) = message_lists.split_at(done);
+        let (more, count) = with_first(alloc, inboxes, remaining, combiner)?;
         inboxes = more;
         done += count;
     }

@@ -13,13 +13,13 @@ use Rattle.pg_inbox_bundles.specs.Counting.{messages_where}
 use Rattle.pg_inbox_bundles.specs.Sound.{sent_message_lists}
 
 module _ {X : Type 0} where
-  pub counted_one : (f : X → ℕ) (rest : List X) (before : ℕ) {x : X} {left : List X} {after whole : ℕ} → left ≡ x ∷ rest
-      → before + sum_by f left ≡ whole → after ≡ before + f x → after + sum_by f rest ≡ whole
+  pub counted_one : (f : X → ℕ) (rest : List X) (before : ℕ) {x : X} {remaining : List X} {after whole : ℕ} → remaining ≡ x ∷ rest
+      → before + sum_by f remaining ≡ whole → after ≡ before + f x → after + sum_by f rest ≡ whole
   counted_one f rest before {x} next so_far counted = omega (arith, so_far, counted, ap (sum_by f) next ∙ sum_by-cons f x rest)
 
-  pub counted_all : (f : X → ℕ) (before : ℕ) {left : List X} {whole : ℕ} → left ≡ [] → before + sum_by f left ≡ whole → before ≡ whole
-  counted_all f before {left} none so_far =
-      let over : sum_by f left ≡ 0 = ap (sum_by f) none in
+  pub counted_all : (f : X → ℕ) (before : ℕ) {remaining : List X} {whole : ℕ} → remaining ≡ [] → before + sum_by f remaining ≡ whole → before ≡ whole
+  counted_all f before {remaining} none so_far =
+      let over : sum_by f remaining ≡ 0 = ap (sum_by f) none in
       omega (arith, so_far, over)
 
 abbrev pub is_undeliverable : Rows → ℕ → Bool

@@ -46,8 +46,8 @@ module _ {X : Type 0} where
     same : (q : ℕ) → id < q → value_at q later ≡ value_at q entries
 
   -- entries without the first, where something is found there
-  abbrev left : Option X → List (ℕ × X) → List (ℕ × X)
-  left found entries = drop (from_bool (is_some found)) entries
+  abbrev remaining : Option X → List (ℕ × X) → List (ℕ × X)
+  remaining found entries = drop (from_bool (is_some found)) entries
 
   module _ (id : ℕ) where
     found_first : (e : ℕ × X) (es : List (ℕ × X)) → id ≡ e.0 → value_at id (e ∷ es) ≡ Some e.1
@@ -56,20 +56,20 @@ module _ {X : Type 0} where
     above_apart : (e : ℕ × X) (es : List (ℕ × X)) → HasRisingIds (e ∷ es) → From id (e ∷ es) → (id ≡ e.0 → ⊥) → From (id + 1) (e ∷ es)
     above_apart e es rise from apart = from_weaker (id + 1) e.0 (e ∷ es) (omega (arith, from.0, apart)) (from_first e es rise)
 
-    past : (entries : List (ℕ × X)) → HasRisingIds entries → From id entries → IsPast id entries (left (value_at id entries) entries)
+    past : (entries : List (ℕ × X)) → HasRisingIds entries → From id entries → IsPast id entries (remaining (value_at id entries) entries)
     past [] rise from = record { above = tt; same = λ q h. refl }
     past (e ∷ es) rise from = ⊎_elim here there (cases_eq id e.0)
       where
-        here : id ≡ e.0 → IsPast id (e ∷ es) (left (value_at id (e ∷ es)) (e ∷ es))
-        here same = subst (λ o. IsPast id (e ∷ es) (left o (e ∷ es))) (sym (found_first e es same)) (record {
+        here : id ≡ e.0 → IsPast id (e ∷ es) (remaining (value_at id (e ∷ es)) (e ∷ es))
+        here same = subst (λ o. IsPast id (e ∷ es) (remaining o (e ∷ es))) (sym (found_first e es same)) (record {
           above = subst (λ k. From (k + 1) es) (sym same) (above_first e es rise);
           same = λ q h. sym (lookup_tail (is_at (nat_cmp q)) e es (at_other q e.0 (λ at. omega (arith, at, same, h))));
         })
 
-        there : (id ≡ e.0 → ⊥) → IsPast id (e ∷ es) (left (value_at id (e ∷ es)) (e ∷ es))
+        there : (id ≡ e.0 → ⊥) → IsPast id (e ∷ es) (remaining (value_at id (e ∷ es)) (e ∷ es))
         there apart =
             let above = above_apart e es rise from apart in
-            subst (λ o. IsPast id (e ∷ es) (left o (e ∷ es))) (sym (none_from id (id + 1) (e ∷ es) (omega arith) above))
+            subst (λ o. IsPast id (e ∷ es) (remaining o (e ∷ es))) (sym (none_from id (id + 1) (e ∷ es) (omega arith) above))
             (record { above = above; same = λ q h. refl })
 
     -- where the first of them isn't at it, none is
@@ -112,7 +112,7 @@ module _ {X : Type 0} where
     fewer : length (drop (place + count) entries) + count ≡ length (drop place entries)
     fewer = ap (λ l. length l + count) (sym (drop-drop count place entries)) ∙ ap (λ n. length (drop n (drop place entries)) + n) is ∙ by (drop place entries)
       where
-        by : (es : List (ℕ × X)) → length (left (value_at id es) es) + from_bool (is_some (value_at id es)) ≡ length es
+        by : (es : List (ℕ × X)) → length (remaining (value_at id es) es) + from_bool (is_some (value_at id es)) ≡ length es
         by [] = refl
         by (e ∷ es) = one (is_some (value_at id (e ∷ es)))
           where

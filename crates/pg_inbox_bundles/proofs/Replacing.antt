@@ -24,7 +24,7 @@ use Rattle.pg_inbox_messages.specs.declared.message_list.Contents.{Contents}
 use Rattle.pg_inbox_messages.proofs.Grouping.{stays}
 use Rattle.pg_inbox_bundles.specs.Bundles.{MessageLists, bundle_of, entries_in, envelopes_at}
 use Rattle.pg_inbox_bundles.specs.Changed.{AreChanged, IsAdded}
-use Rattle.pg_inbox_bundles.specs.MessageEdits.{inserted, as_addition, as_withdrawal, changes_of, edited, edited_at, message_edits_of, senders_of}
+use Rattle.pg_inbox_bundles.specs.MessageEdits.{inserted, as_addition, as_retraction, changes_of, edited, edited_at, message_edits_of, senders_of}
 use Rattle.pg_inbox_bundles.specs.Ordered.{in_order}
 use Rattle.pg_inbox_bundles.specs.Patched.{AreReplaced, IsPatched, is_retracted, staying}
 use Rattle.pg_inbox_bundles.specs.Outbox.{Outbox, envelopes_to}
@@ -67,13 +67,13 @@ module _ {X Y : Type 0} (f : ℕ × X → Y) where
 module _ {M : Type 0} (retracted : List (ℕ × ℕ)) (added : Outbox M) where
   pub targets-message_edits_of : map (λ m. m.0) (message_edits_of retracted added) ≡ map (λ w. w.1) retracted ++ map (λ s. s.1) added
   targets-message_edits_of =
-      map-append (λ m. m.0) (map (as_withdrawal {M = M}) retracted) (map as_addition added)
-      ∙ ap₂ ◌++◌ (map-map (λ m. m.0) (as_withdrawal {M = M}) retracted) (map-map (λ m. m.0) as_addition added)
+      map-append (λ m. m.0) (map (as_retraction {M = M}) retracted) (map as_addition added)
+      ∙ ap₂ ◌++◌ (map-map (λ m. m.0) (as_retraction {M = M}) retracted) (map-map (λ m. m.0) as_addition added)
 
   pub length-message_edits_of : length (message_edits_of retracted added) ≡ length retracted + length added
   length-message_edits_of =
-      length-append (map (as_withdrawal {M = M}) retracted) (map as_addition added)
-      ∙ ap₂ ◌+◌ (length-map retracted (as_withdrawal {M = M})) (length-map added as_addition)
+      length-append (map (as_retraction {M = M}) retracted) (map as_addition added)
+      ∙ ap₂ ◌+◌ (length-map retracted (as_retraction {M = M})) (length-map added as_addition)
 
 module _ {X : Type 0} where
   slice_get-first : (xs ys : List X) (i : ℕ) → i < length xs → slice_get (xs ++ ys) i ≡ slice_get xs i
@@ -88,16 +88,16 @@ module _ {X : Type 0} where
 
 module _ {M : Type 0} (retracted : List (ℕ × ℕ)) (added : Outbox M) where
   -- what stands at a place, of the one or of the other
-  pub withdrawal_at : (i : ℕ) (w : ℕ × ℕ) → i < length retracted → slice_get retracted i ≡ Some w
-      → slice_get (message_edits_of retracted added) i ≡ Some (as_withdrawal w)
-  withdrawal_at i w within at =
-      slice_get-first (map (as_withdrawal {M = M}) retracted) (map as_addition added) i (omega (arith, within, length-map retracted (as_withdrawal {M = M})))
-      ∙ slice_get-map (as_withdrawal {M = M}) retracted i ∙ ap (option_map (as_withdrawal {M = M})) at
+  pub retraction_at : (i : ℕ) (w : ℕ × ℕ) → i < length retracted → slice_get retracted i ≡ Some w
+      → slice_get (message_edits_of retracted added) i ≡ Some (as_retraction w)
+  retraction_at i w within at =
+      slice_get-first (map (as_retraction {M = M}) retracted) (map as_addition added) i (omega (arith, within, length-map retracted (as_retraction {M = M})))
+      ∙ slice_get-map (as_retraction {M = M}) retracted i ∙ ap (option_map (as_retraction {M = M})) at
 
   pub addition_at : (i j : ℕ) (s : ℕ × ℕ × M) → j ≡ length retracted + i → slice_get added i ≡ Some s
       → slice_get (message_edits_of retracted added) j ≡ Some (as_addition s)
   addition_at i j s is at =
-      slice_get-second (map (as_withdrawal {M = M}) retracted) (map as_addition added) i j (omega (arith, is, length-map retracted (as_withdrawal {M = M})))
+      slice_get-second (map (as_retraction {M = M}) retracted) (map as_addition added) i j (omega (arith, is, length-map retracted (as_retraction {M = M})))
       ∙ slice_get-map as_addition added i ∙ ap (option_map as_addition) at
 
 -- ---- what is done to one target
@@ -123,7 +123,7 @@ module _ {M : Type 0} (q : ℕ) where
       message_edits = filter (λ i. i.0 == q) (message_edits_of retracted added)
 
       by : (b : Bool) → has_id (senders_of (items_to q (message_edits_of retracted added))) sender ≡ is_retracted retracted sender q
-          → has_id (senders_of (map (λ i. i.1) (cond b (as_withdrawal w ∷ message_edits) message_edits))) sender ≡ (((w.0 == sender) && b) || is_retracted retracted sender q)
+          → has_id (senders_of (map (λ i. i.1) (cond b (as_retraction w ∷ message_edits) message_edits))) sender ≡ (((w.0 == sender) && b) || is_retracted retracted sender q)
       by true h = ap₂ ◌||◌ (sym (and-true (w.0 == sender))) h
       by false h = h ∙ ap (λ b. b || is_retracted retracted sender q) (sym (and-false (w.0 == sender)))
 
@@ -147,7 +147,7 @@ module _ {M : Type 0} (q : ℕ) where
       message_edits = filter (λ i. i.0 == q) (message_edits_of retracted added)
 
       by : (b : Bool) → inserted (items_to q (message_edits_of retracted added)) ≡ envelopes_to q added
-          → inserted (map (λ i. i.1) (cond b (as_withdrawal w ∷ message_edits) message_edits)) ≡ envelopes_to q added
+          → inserted (map (λ i. i.1) (cond b (as_retraction w ∷ message_edits) message_edits)) ≡ envelopes_to q added
       by true h = h
       by false h = h
 

@@ -52,11 +52,11 @@ module _ {M : Type 0} where
   changes_of combining old groups = map (λ g. (g.0, edited_at combining old g)) groups
 
   -- what is retracted and added, by target
-  abbrev pub as_withdrawal : ℕ × ℕ → ℕ × MessageEdit M
-  as_withdrawal w = (w.1, Retracted w.0)
+  abbrev pub as_retraction : ℕ × ℕ → ℕ × MessageEdit M
+  as_retraction w = (w.1, Retracted w.0)
 
   abbrev pub as_addition : ℕ × ℕ × M → ℕ × MessageEdit M
   as_addition s = (s.1, Added s.0 s.2)
 
   abbrev pub message_edits_of : List (ℕ × ℕ) → Outbox M → List (ℕ × MessageEdit M)
-  message_edits_of retracted added = map as_withdrawal retracted ++ map as_addition added
+  message_edits_of retracted added = map as_retraction retracted ++ map as_addition added

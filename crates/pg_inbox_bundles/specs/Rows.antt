@@ -18,11 +18,11 @@ combined_entries : entries (bundle_of (Some least_message) three)
 combined_entries = refl
 
 -- without a combiner each message has its own, by target, sender and order
-each_entry_alone : entries (bundle_of None three)
+entry_of_each_message : entries (bundle_of None three)
     ≡ record { target = 4; from = Some 1; message = pos 3; count = 1 }
     ∷ record { target = 4; from = Some 3; message = pos 2; count = 1 }
     ∷ record { target = 5; from = Some 3; message = pos 7; count = 1 } ∷ []
-each_entry_alone = refl
+entry_of_each_message = refl
 
 combined_inbox : delivered (Some least_message) 4 (without_senders four) ≡ pos 2 ∷ []
 combined_inbox = refl

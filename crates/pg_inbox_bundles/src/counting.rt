@@ -71,10 +71,10 @@ fn undeliverable_sent<M: Plain>(
     }
     let mut rows = graph.cursor();
     let mut count = 0u64;
-    let mut left = envelopes;
-    while let Some((target, here, later)) = first_group(left) {
+    let mut remaining = envelopes;
+    while let Some((target, here, later)) = first_group(remaining) {
         count = with_undeliverable(count, &mut rows, target, here.len())?;
-        left = later;
+        remaining = later;
     }
     Ok(count)
 }

@@ -79,7 +79,7 @@ fn envelopes_by_target<M: Plain>(
     ensures rise { IfOk result (λ envelopes. IsNonDecreasingBy (λ l. l.0) envelopes.items) }
     ensures values { IfOk result (λ envelopes. AllByRecursion (λ l. M.is_value l.1.1) envelopes.items) }
 {
-    let order = sorted_by_id(alloc, sent.beside_targets())?;
+    let order = sorted_by_id(alloc, sent.with_targets())?;
     envelopes_in_order(alloc, sent, order.as_slice())
 }
 

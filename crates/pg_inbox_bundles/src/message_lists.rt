@@ -1,5 +1,5 @@
 //! The message lists of a bundle: those of its envelopes, with what is changed of them.
-ghost use Rattle.std.specs.Prelude.{◌≡◌, ◌++◌, ◌∷◌, [], ℕ, List, Option, nat_le, nat_lt, IfOk, OnOk};
+ghost use Rattle.std.specs.Prelude.{◌≡◌, ◌++◌, ◌∷◌, [], ℕ, List, Option, IfOk, OnOk};
 ghost use Rattle.std.specs.List.Sorted.{IsNonDecreasingBy};
 ghost use Rattle.pg_map.specs.Entries.{ChangesRise, HasRisingIds, with_change};
 ghost use Rattle.pg_inbox_messages.specs.declared.message_list.Contents.{Contents};
@@ -9,6 +9,7 @@ ghost use Rattle.pg_inbox_bundles.specs.Sound.{message_lists_with, sent_message_
 use crate::Bundle;
 use pg_graph::{Memory, VertexId};
 use pg_inbox_messages::{MessageListChange, MessageListRef, first_group};
+use pg_map::{is_at_most, is_below};
 use pg_program::Plain;
 use std::alloc::Global;
 
@@ -24,11 +25,11 @@ impl<M: Plain> Bundle<M> {
         ensures hold { HoldAll M.is_value self.now }
     {
         let mut message_lists = Vec::with_capacity(alloc, self.changes.len())?;
-        let mut left = self.envelopes.as_slice();
+        let mut remaining = self.envelopes.as_slice();
         for (id, change) in self.changes.iter() {
-            left = add_up_to(&mut message_lists, left, *id, change)?;
+            remaining = add_up_to(&mut message_lists, remaining, *id, change)?;
         }
-        add_sent(&mut message_lists, left)?;
+        add_sent(&mut message_lists, remaining)?;
         Ok(message_lists)
     }
 }
@@ -64,10 +65,10 @@ fn add_sent<'a, M: Plain>(
 ) -> Result<(), Memory>
     ensures { OnOk result (message_lists.new.items ≡ message_lists.old.items ++ sent_message_lists envelopes.now) }
 {
-    let mut left = envelopes;
-    while let Some((target, here, later)) = first_group(left) {
+    let mut remaining = envelopes;
+    while let Some((target, here, later)) = first_group(remaining) {
         message_lists.push((target, MessageListRef::of_sent(here)))?;
-        left = later;
+        remaining = later;
     }
     Ok(())
 }
@@ -84,18 +85,4 @@ fn add_changed<'a, M: Plain>(
         message_lists.push((id, message_list))?;
     }
     Ok(())
-}
-
-/// Whether an id is below another.
-fn is_below(id: VertexId, other: VertexId) -> bool
-    ensures { result ≡ nat_lt id other }
-{
-    id < other
-}
-
-/// Whether an id is below another, or is it.
-fn is_at_most(id: VertexId, other: VertexId) -> bool
-    ensures { result ≡ nat_le id other }
-{
-    id <= other
 }

@@ -102,7 +102,7 @@ impl<'a, M> OutboxRef<'a, M> {
     }
 
     /// The messages with their targets.
-    pub(crate) fn beside_targets(&self) -> &'a [(VertexId, M)]
+    pub(crate) fn with_targets(&self) -> &'a [(VertexId, M)]
         ensures { map (λ m. m.0) result.now ≡ map (λ s. s.1) self.now }
     {
         self.sent

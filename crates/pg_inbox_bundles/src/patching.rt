@@ -80,7 +80,7 @@ fn message_edits_by_target<M: Plain>(
     ensures { IfOk result (λ message_edits. AreGroups (message_edits_of retracted.now added.now)
         (groups_of message_edits.items)) }
 {
-    let targets = targets_of(alloc, retracted, added.beside_targets())?;
+    let targets = targets_of(alloc, retracted, added.with_targets())?;
     let order = sorted_by_id(alloc, targets.as_slice())?;
     message_edits_in_order(alloc, retracted, added, order.as_slice())
 }
@@ -231,14 +231,14 @@ fn changes_at<M: Plain, C: MessageCombiner<M>>(
     let mut changes = Vec::with_capacity(alloc, message_edits.len())?;
     let mut changed = Vec::with_capacity(alloc, message_edits.len())?;
     let mut cursor = old.cursor();
-    let mut left = message_edits;
-    while let Some((target, here, later)) = first_group(left) {
+    let mut remaining = message_edits;
+    while let Some((target, here, later)) = first_group(remaining) {
         let before = cursor.message_list(target);
         let seen = before.as_ref();
         let change = change_to(alloc, seen, here, combiner)?;
         note_if_changed(&mut changed, target, seen, &change)?;
         changes.push((target, change))?;
-        left = later;
+        remaining = later;
     }
     Ok(After { changes, changed })
 }
@@ -274,7 +274,7 @@ fn change_to<M: Plain, C: MessageCombiner<M>>(
     Ok(MessageListChange::of(message_list))
 }
 
-/// The messages to a target afterwards; nothing where none is left.
+/// The messages to a target afterwards; nothing where none remains.
 fn message_list_after<M: Plain, C: MessageCombiner<M>>(
     alloc: Global,
     old: Option<&MessageListRef<'_, M>>,

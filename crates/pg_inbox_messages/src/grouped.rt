@@ -1,9 +1,10 @@
 //! Items by target: those to one target side by side, in their order.
-ghost use Rattle.std.specs.Prelude.{◌≡◌, [], map, nat_lt, IfOk, MatchOption};
+ghost use Rattle.std.specs.Prelude.{◌≡◌, [], map, IfOk, MatchOption};
 ghost use Rattle.std.specs.List.Sorted.{IsNonDecreasingBy};
 ghost use Rattle.pg_inbox_messages.specs.Grouping.{AreGroups, IsFirstGroup, groups_of, items_to, run_len};
 
 use pg_graph::{Memory, VertexId};
+use pg_map::is_below;
 
 /// Items by rising target. Costs a stable sort.
 pub fn by_target<X: Drop>(items: Vec<(VertexId, X)>) -> Result<Vec<(VertexId, X)>, Memory>
@@ -36,13 +37,6 @@ pub fn items_to<X>(items: &[(VertexId, X)], target: VertexId) -> &[(VertexId, X)
     let (_, from) = items.split_at(before);
     let (here, _) = from.split_at(run_len(from, target));
     here
-}
-
-/// Whether an id is below another.
-fn is_below(id: VertexId, other: VertexId) -> bool
-    ensures { result ≡ nat_lt id other }
-{
-    id < other
 }
 
 /// How many items at the beginning are to a target. Costs as much as there are.

@@ -30,11 +30,11 @@ pub fn message_lists_of<M: Plain, C: MessageCombiner<M>>(
         (λ message_lists. AllByRecursion (λ p. IfSome p.1 (Holds M.is_value)) message_lists.items) }
 {
     let mut message_lists = Vec::with_capacity(alloc, envelopes.len())?;
-    let mut left = envelopes;
-    while let Some((target, here, later)) = first_group(left) {
+    let mut remaining = envelopes;
+    while let Some((target, here, later)) = first_group(remaining) {
         let message_list = message_list_of(alloc, here, combiner)?;
         message_lists.push((target, MessageListChange::of(Some(message_list))))?;
-        left = later;
+        remaining = later;
     }
     Ok(message_lists)
 }

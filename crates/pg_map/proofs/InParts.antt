@@ -182,13 +182,13 @@ module _ {X T : Type 0} (listed : Node T → List (ℕ × X)) where
       omega (arith, sum_by-cons (λ p. p.count) c cs, are.0.1, counted_all cs are.1, length-append (listed c) (entries_of cs))
 
   -- parts begin where the first of them does
-  starts-left : (m : ℕ) (a b : List (ℕ × X)) → StartsAt m a → StartsAt m (a ++ b)
-  starts-left m [] b starts = absurd starts
-  starts-left m (e ∷ a) b starts = starts
+  starts-remaining : (m : ℕ) (a b : List (ℕ × X)) → StartsAt m a → StartsAt m (a ++ b)
+  starts-remaining m [] b starts = absurd starts
+  starts-remaining m (e ∷ a) b starts = starts
 
   pub starts_at_first : (cs : List (Node T)) (d : Node T) → 0 < length cs → AreParts listed cs → StartsAt (get_or cs 0 d).first (entries_of cs)
   starts_at_first [] d some are = absurd (omega arith)
-  starts_at_first (c ∷ cs) d some are = starts-left c.first (listed c) (entries_of cs) are.0.0
+  starts_at_first (c ∷ cs) d some are = starts-remaining c.first (listed c) (entries_of cs) are.0.0
 
   -- ---- changes
 
@@ -206,11 +206,11 @@ module _ {X T : Type 0} (listed : Node T → List (ℕ × X)) where
       (from_part d ds are.1 (rises_right (listed c) (entries_of (d ∷ ds)) rising))
 
   -- the next part and the changes that fall into it
-  pub part_turn : (gathered gathered' : List (ℕ × X)) (left cs : List (Node T)) (c : Node T) (todo here later : List (ℕ × Option X)) (n : ℕ)
-      → left ≡ c ∷ cs → todo ≡ here ++ later → here ≡ take n todo → later ≡ drop n todo
-      → AreParts listed left → HasRisingIds (entries_of left) → AreCut cs (take n todo) (drop n todo) → gathered' ≡ gathered ++ with_changes here (listed c)
-      → gathered' ++ with_changes later (entries_of cs) ≡ gathered ++ with_changes todo (entries_of left)
-  part_turn gathered gathered' left cs c todo here later n at parts front back are rising cut grown =
+  pub part_turn : (gathered gathered' : List (ℕ × X)) (remaining cs : List (Node T)) (c : Node T) (todo here later : List (ℕ × Option X)) (n : ℕ)
+      → remaining ≡ c ∷ cs → todo ≡ here ++ later → here ≡ take n todo → later ≡ drop n todo
+      → AreParts listed remaining → HasRisingIds (entries_of remaining) → AreCut cs (take n todo) (drop n todo) → gathered' ≡ gathered ++ with_changes here (listed c)
+      → gathered' ++ with_changes later (entries_of cs) ≡ gathered ++ with_changes todo (entries_of remaining)
+  part_turn gathered gathered' remaining cs c todo here later n at parts front back are rising cut grown =
       let cut' = subst (λ l. AreCut cs here l) (sym back) (subst (λ l. AreCut cs l (drop n todo)) (sym front) cut) in
       ap (λ l. l ++ with_changes later (entries_of cs)) grown
       ∙ append_assoc gathered (with_changes here (listed c)) (with_changes later (entries_of cs))

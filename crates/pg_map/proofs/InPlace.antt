@@ -125,12 +125,12 @@ module _ {X : Type 0} where
     pub put_turn : (todo' : List (ℕ × Option X)) (es' all : List (ℕ × X)) (v : X) → drop (i + 1) todo' ≡ drop (i + 1) todo
         → (get_or todo i d).1 ≡ Some v → es' ≡ insert_entry nat_cmp es (get_or todo i d).0 v → with_changes (drop i todo) es ≡ all → HasRisingIds es
         → (with_changes (drop (i + 1) todo') es' ≡ all) × AreThere (drop (i + 1) todo') es' × HasRisingIds es'
-    put_turn todo' es' all v left gives put made rise = (
-      ap (λ l. with_changes l es') left
+    put_turn todo' es' all v remaining gives put made rise = (
+      ap (λ l. with_changes l es') remaining
           ∙ ap (with_changes (drop (i + 1) todo)) (put ∙ sym (ap (λ o. with_change (get_or todo i d).0 o es) gives))
           ∙ sym (ap (λ l. with_changes l es) next)
           ∙ made,
-      subst (λ l. AreThere l es') (sym left)
+      subst (λ l. AreThere l es') (sym remaining)
           (subst (AreThere (drop (i + 1) todo)) (sym put) (stays (drop (i + 1) todo) es (get_or todo i d).0 v next_there.1)),
       subst HasRisingIds (sym put) (rises-insert es (get_or todo i d).0 v rise),
     )

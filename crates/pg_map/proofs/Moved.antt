@@ -6,12 +6,12 @@ module _ {X : Type 0} where
   pub first_of_rest : (xs : List X) (i : ℕ) {x : X} → i < length xs → x ≡ get_or xs i x → drop i xs ≡ x ∷ drop (i + 1) xs
   first_of_rest xs i {x} within is = drop_more xs i x within ∙ ap (λ y. y ∷ drop (i + 1) xs) (sym is)
 
-  pub moved_one : (before rest : List X) {x : X} {after left whole : List X} → left ≡ x ∷ rest → before ++ left ≡ whole → after ≡ before ++ x ∷ []
+  pub moved_one : (before rest : List X) {x : X} {after remaining whole : List X} → remaining ≡ x ∷ rest → before ++ remaining ≡ whole → after ≡ before ++ x ∷ []
       → after ++ rest ≡ whole
   moved_one before rest {x} next so_far pushed =
       ap (λ l. l ++ rest) pushed ∙ append_assoc before (x ∷ []) rest ∙ ap (λ l. before ++ l) (sym next) ∙ so_far
 
-  pub moved_all : (before : List X) {left whole : List X} → left ≡ [] → before ++ left ≡ whole → before ≡ whole
+  pub moved_all : (before : List X) {remaining whole : List X} → remaining ≡ [] → before ++ remaining ≡ whole → before ≡ whole
   moved_all before none so_far = sym (append-nil before) ∙ ap (λ l. before ++ l) (sym none) ∙ so_far
 
   pub taken_more : (xs : List X) (i : ℕ) {x : X} {before after : List X} → i < length xs → x ≡ get_or xs i x → before ≡ take i xs

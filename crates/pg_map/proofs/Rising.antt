@@ -70,12 +70,12 @@ module _ {X : Type 0} where
       ap (λ r. put_by r x xs e.0 e.1) above ∙ ap (λ l. x ∷ l) later
 
   -- the next entry goes to the end of those that are put already
-  pub next_put : (all done done' left left' : List (ℕ × X)) (k : ℕ) (v v' : X) → Rises all → done ++ left ≡ all → left ≡ (k, v) ∷ left' → v' ≡ v
-      → done' ≡ insert_entry nat_cmp done k v' → done' ++ left' ≡ all
-  next_put all done done' left left' k v v' rising so_far next same put =
-      let whole : done ++ (k, v) ∷ left' ≡ all = ap (λ l. done ++ l) (sym next) ∙ so_far in
-      let last = insert_entry-last done (k, v) left' (subst Rises (sym whole) rising) in
-      ap (λ l. l ++ left') (put ∙ ap (λ x. insert_entry nat_cmp done k x) same ∙ last) ∙ append_assoc done ((k, v) ∷ []) left' ∙ whole
+  pub next_put : (all done done' remaining remaining' : List (ℕ × X)) (k : ℕ) (v v' : X) → Rises all → done ++ remaining ≡ all → remaining ≡ (k, v) ∷ remaining' → v' ≡ v
+      → done' ≡ insert_entry nat_cmp done k v' → done' ++ remaining' ≡ all
+  next_put all done done' remaining remaining' k v v' rising so_far next same put =
+      let whole : done ++ (k, v) ∷ remaining' ≡ all = ap (λ l. done ++ l) (sym next) ∙ so_far in
+      let last = insert_entry-last done (k, v) remaining' (subst Rises (sym whole) rising) in
+      ap (λ l. l ++ remaining') (put ∙ ap (λ x. insert_entry nat_cmp done k x) same ∙ last) ∙ append_assoc done ((k, v) ∷ []) remaining' ∙ whole
 
   -- the next entry goes to the end of those before it
   pub insert_entry-take : (es : List (ℕ × X)) (i : ℕ) (e : ℕ × X) → Rises es → i < length es → e ≡ get_or es i e

@@ -65,13 +65,13 @@ module _ {X : Type 0} (c : ℕ × Option X) (cs : List (ℕ × Option X)) (rise 
 
 -- ---- the same of what is gathered so far
 
-module _ {X : Type 0} (self self' : List (ℕ × X)) (todo cs : List (ℕ × Option X)) (c : ℕ × Option X) (left : List (ℕ × X)) (next : todo ≡ c ∷ cs)
+module _ {X : Type 0} (self self' : List (ℕ × X)) (todo cs : List (ℕ × Option X)) (c : ℕ × Option X) (remaining : List (ℕ × X)) (next : todo ≡ c ∷ cs)
     (rise : ChangesRise todo) where
   rising : ChangesRise (c ∷ cs)
   rising = subst ChangesRise next rise
 
-  module _ (e : ℕ × X) (es : List (ℕ × X)) (at : left ≡ e ∷ es) where
-    pub pass_turn : (v : X) → self' ≡ self ++ (e.0, v) ∷ [] → v ≡ e.1 → e.0 < c.0 → self' ++ with_changes todo es ≡ self ++ with_changes todo left
+  module _ (e : ℕ × X) (es : List (ℕ × X)) (at : remaining ≡ e ∷ es) where
+    pub pass_turn : (v : X) → self' ≡ self ++ (e.0, v) ∷ [] → v ≡ e.1 → e.0 < c.0 → self' ++ with_changes todo es ≡ self ++ with_changes todo remaining
     pass_turn v grown same h =
         ap (λ l. l ++ with_changes todo es) grown
         ∙ append_assoc self ((e.0, v) ∷ []) (with_changes todo es)
@@ -81,7 +81,7 @@ module _ {X : Type 0} (self self' : List (ℕ × X)) (todo cs : List (ℕ × Opt
         ∙ sym (ap (λ t. self ++ with_changes t (e ∷ es)) next)
         ∙ sym (ap (λ l. self ++ with_changes todo l) at)
 
-    pub skip_turn : e.0 ≡ c.0 → HasRisingIds left → self ++ with_changes todo es ≡ self ++ with_changes todo left
+    pub skip_turn : e.0 ≡ c.0 → HasRisingIds remaining → self ++ with_changes todo es ≡ self ++ with_changes todo remaining
     skip_turn same entries_rise =
         ap (λ t. self ++ with_changes t es) next
         ∙ ap (λ l. self ++ l) (sym (skipped c cs rising e es same (subst HasRisingIds at entries_rise)))
@@ -89,26 +89,26 @@ module _ {X : Type 0} (self self' : List (ℕ × X)) (todo cs : List (ℕ × Opt
         ∙ sym (ap (λ l. self ++ with_changes todo l) at)
 
     -- where the next entry isn't below the next change, nor at it
-    pub from_entry : HasRisingIds left → (e.0 < c.0 → ⊥) → (e.0 ≡ c.0 → ⊥) → From (c.0 + 1) left
+    pub from_entry : HasRisingIds remaining → (e.0 < c.0 → ⊥) → (e.0 ≡ c.0 → ⊥) → From (c.0 + 1) remaining
     from_entry entries_rise not_below not_at =
         let above : c.0 + 1 ≤ e.0 = omega arith in
-        from_weaker (c.0 + 1) e.0 left above (subst (From e.0) (sym at) (from_first e es (subst HasRisingIds at entries_rise)))
+        from_weaker (c.0 + 1) e.0 remaining above (subst (From e.0) (sym at) (from_first e es (subst HasRisingIds at entries_rise)))
 
-  pub from_none : length left ≡ 0 → From (c.0 + 1) left
-  from_none none = by left none
+  pub from_none : length remaining ≡ 0 → From (c.0 + 1) remaining
+  from_none none = by remaining none
     where
       by : (l : List (ℕ × X)) → length l ≡ 0 → From (c.0 + 1) l
       by [] h = tt
       by (e ∷ es) h = absurd (omega arith)
 
-  module _ (above : From (c.0 + 1) left) where
-    pub put_turn : (u v : X) → c.1 ≡ Some u → v ≡ u → self' ≡ self ++ (c.0, v) ∷ [] → self' ++ with_changes cs left ≡ self ++ with_changes todo left
+  module _ (above : From (c.0 + 1) remaining) where
+    pub put_turn : (u v : X) → c.1 ≡ Some u → v ≡ u → self' ≡ self ++ (c.0, v) ∷ [] → self' ++ with_changes cs remaining ≡ self ++ with_changes todo remaining
     put_turn u v is same grown =
-        ap (λ l. l ++ with_changes cs left) grown
-        ∙ append_assoc self ((c.0, v) ∷ []) (with_changes cs left)
-        ∙ ap (λ x. self ++ (c.0, x) ∷ with_changes cs left) same
-        ∙ ap (λ l. self ++ l) (sym (put c cs rising left above u is))
-        ∙ sym (ap (λ t. self ++ with_changes t left) next)
+        ap (λ l. l ++ with_changes cs remaining) grown
+        ∙ append_assoc self ((c.0, v) ∷ []) (with_changes cs remaining)
+        ∙ ap (λ x. self ++ (c.0, x) ∷ with_changes cs remaining) same
+        ∙ ap (λ l. self ++ l) (sym (put c cs rising remaining above u is))
+        ∙ sym (ap (λ t. self ++ with_changes t remaining) next)
 
-    pub remove_turn : c.1 ≡ None → self ++ with_changes cs left ≡ self ++ with_changes todo left
-    remove_turn is = ap (λ l. self ++ l) (sym (removed c cs rising left above is)) ∙ sym (ap (λ t. self ++ with_changes t left) next)
+    pub remove_turn : c.1 ≡ None → self ++ with_changes cs remaining ≡ self ++ with_changes todo remaining
+    remove_turn is = ap (λ l. self ++ l) (sym (removed c cs rising remaining above is)) ∙ sym (ap (λ t. self ++ with_changes t remaining) next)

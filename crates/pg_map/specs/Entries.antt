@@ -18,7 +18,7 @@ value_at id entries = lookup (is_at (nat_cmp id)) entries
 abbrev pub Spans : {V : Type 0} → ℕ → List (ℕ × V) → Type 0
 Spans id entries = (AllByRecursion (λ e. id < e.0) entries → ⊥) × (AllByRecursion (λ e. e.0 < id) entries → ⊥)
 
--- some of all entries, which rise by id, and none between them is left out: what lies between two of them lies between
+-- some of all entries, which rise by id, and none between them is omitted: what lies between two of them lies between
 -- two of all
 abbrev pub IsSlice : {V : Type 0} → List (ℕ × V) → List (ℕ × V) → Type 0
 IsSlice entries all = HasRisingIds entries

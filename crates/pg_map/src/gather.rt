@@ -168,7 +168,7 @@ fn cut_chunk<V: CheapClone>(
 ) -> Result<(), Memory>
     requires { count ≤ length piece.old.items }
     ensures entries { OnOk result (made.new ++ piece.new.items ≡ made.old ++ piece.old.items) }
-    ensures left { OnOk result (length piece.new.items + count ≡ length piece.old.items) }
+    ensures remaining { OnOk result (length piece.new.items + count ≡ length piece.old.items) }
 {
     if count == 0 {
         return Ok(());

@@ -93,8 +93,8 @@ impl<V: Drop> Grouping<V> {
             mut made,
             mut chunks,
         } = self;
-        let left = chunks.len();
-        cut_group(alloc, &mut made, &mut chunks, left)?;
+        let remaining = chunks.len();
+        cut_group(alloc, &mut made, &mut chunks, remaining)?;
         Ok(made)
     }
 }
@@ -113,7 +113,7 @@ fn cut_group<V: Drop>(
     ensures chunks { AreChunks chunks.new.items }
     ensures entries { OnOk result
         (all_of made.new.items ++ entries_of chunks.new.items ≡ all_of made.old.items ++ entries_of chunks.old.items) }
-    ensures left { OnOk result (length chunks.new.items + count ≡ length chunks.old.items) }
+    ensures remaining { OnOk result (length chunks.new.items + count ≡ length chunks.old.items) }
 {
     if count == 0 {
         return Ok(());

@@ -45,7 +45,7 @@ pub(crate) fn change_in_place<V: CheapClone>(
         (λ n. all_of (groups_of group_list.new) ≡ with_changes changes.old (all_of (groups_of group_list.old))) }
     ensures counted { IfSome result (λ n. n ≡ length (all_of (groups_of group_list.new))) }
     ensures none { IfNone result (all_of (groups_of group_list.new) ≡ all_of (groups_of group_list.old)) }
-    ensures left { IfNone result (changes.new ≡ changes.old) }
+    ensures remaining { IfNone result (changes.new ≡ changes.old) }
 {
     let Some(shared) = &mut group_list.shared else {
         return None;
@@ -85,7 +85,7 @@ fn change_groups<V: CheapClone>(
     ensures made { IfSome result (λ n. all_of groups.new ≡ with_changes changes.old (all_of groups.old)) }
     ensures counted { IfSome result (λ n. n ≡ before + length (all_of groups.new)) }
     ensures none { IfNone result (all_of groups.new ≡ all_of groups.old) }
-    ensures left { IfNone result (changes.new ≡ changes.old) }
+    ensures remaining { IfNone result (changes.new ≡ changes.old) }
 {
     let passed = untouched(groups, changes);
     let (front, _) = groups.split_at(passed);
@@ -114,7 +114,7 @@ fn change_first_group<V: CheapClone>(
     ensures made { IfSome result (λ n. all_of groups.new ≡ with_changes changes.old (all_of groups.old)) }
     ensures counted { IfSome result (λ n. n ≡ before + length (all_of groups.new)) }
     ensures none { IfNone result (all_of groups.new ≡ all_of groups.old) }
-    ensures left { IfNone result (changes.new ≡ changes.old) }
+    ensures remaining { IfNone result (changes.new ≡ changes.old) }
 {
     let depth = depth.checked_sub(1)?;
     let Some((group, others)) = groups.split_first_mut() else {

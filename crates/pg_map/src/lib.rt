@@ -17,6 +17,7 @@ mod walk;
 pub use find::Cursor;
 pub use number::{Edition, PartitionId, Superstep, VertexId, WorkerId, checked_u32};
 pub use pack::Pack;
+pub use part::{is_at_most, is_below};
 pub use shared::{CheapClone, Map};
 pub use std::alloc::AllocError as Memory;
 pub use walk::{Ids, Iter};

@@ -21,14 +21,14 @@ impl<V: CheapClone> Gathering<V> {
         requires entries_rise { HasRisingIds entries.now }
         ensures { OnOk result (self.new ≡ self.old ++ with_changes changes.now entries.now) }
     {
-        let (mut todo, mut left) = (changes, entries);
+        let (mut todo, mut remaining) = (changes, entries);
         while let Some((change, later)) = todo.split_first() {
-            match left.split_first() {
+            match remaining.split_first() {
                 Some((entry, others)) if entry.0 < change.0 => {
                     self.push(alloc, entry.0, entry.1.cheap_clone(alloc)?)?;
-                    left = others;
+                    remaining = others;
                 }
-                Some((entry, others)) if entry.0 == change.0 => left = others,
+                Some((entry, others)) if entry.0 == change.0 => remaining = others,
                 _ => {
                     if let Some(value) = &change.1 {
                         self.push(alloc, change.0, value.cheap_clone(alloc)?)?;
@@ -37,7 +37,7 @@ impl<V: CheapClone> Gathering<V> {
                 }
             }
         }
-        self.extend(alloc, left)
+        self.extend(alloc, remaining)
     }
 
     /// Adds a chunk with changes of it, as a chunk where that is large enough. One with none stays in its
@@ -74,12 +74,12 @@ impl<V: CheapClone> Gathering<V> {
         requires chunks { AreChunks chunks.now }
         ensures { OnOk result (self.new ≡ self.old ++ with_changes changes.now (entries_of chunks.now)) }
     {
-        let (mut todo, mut left) = (changes, chunks);
-        while let Some((chunk, others)) = left.split_first() {
+        let (mut todo, mut remaining) = (changes, chunks);
+        while let Some((chunk, others)) = remaining.split_first() {
             let (here, later) = todo.split_at(cut_of(todo, others));
             self.merge_chunk(alloc, here, chunk)?;
             todo = later;
-            left = others;
+            remaining = others;
         }
         let none = Vec::new(alloc);
         self.merge(alloc, todo, none.as_slice())
@@ -118,12 +118,12 @@ pub(crate) fn changed<V: CheapClone>(
     ensures groups { IfOk result (λ made. AreGroups made.items) }
 {
     let mut gathering = Gathering::new(alloc);
-    let (mut todo, mut left) = (changes, groups);
-    while let Some((group, others)) = left.split_first() {
+    let (mut todo, mut remaining) = (changes, groups);
+    while let Some((group, others)) = remaining.split_first() {
         let (here, later) = todo.split_at(cut_of(todo, others));
         gathering.merge_group(alloc, here, group)?;
         todo = later;
-        left = others;
+        remaining = others;
     }
     let none = Vec::new(alloc);
     gathering.merge(alloc, todo, none.as_slice())?;

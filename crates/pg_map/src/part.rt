@@ -76,14 +76,14 @@ pub(crate) fn group_of<V: Drop>(alloc: Global, chunks: Vec<Chunk<V>>) -> Result<
 }
 
 /// Whether an id is below another.
-pub(crate) fn is_below(id: VertexId, other: VertexId) -> bool
+pub fn is_below(id: VertexId, other: VertexId) -> bool
     ensures { result ≡ nat_lt id other }
 {
     id < other
 }
 
 /// Whether an id is below another, or is it.
-pub(crate) fn is_at_most(id: VertexId, other: VertexId) -> bool
+pub fn is_at_most(id: VertexId, other: VertexId) -> bool
     ensures { result ≡ nat_le id other }
 {
     id <= other

@@ -10,7 +10,7 @@ use crate::find::begun;
 use crate::part::{Chunk, Group, is_below};
 use std::marker::Model;
 
-/// The entries of a map that are left on a walk. A contract sees the list of them.
+/// The entries of a map that remain on a walk. A contract sees the list of them.
 #[derive(Drop)]
 pub struct Iter<'a, V> {
     pub(crate) entries: &'a [(VertexId, V)],
@@ -68,7 +68,7 @@ fn opened<'a, V>(chunks: &'a [Chunk<V>], groups: &'a [Group<V>]) -> (&'a [Chunk<
     (chunks, groups)
 }
 
-/// The entries of these chunks from an id on: what is left of one chunk, and the chunks after it.
+/// The entries of these chunks from an id on: what remains of one chunk, and the chunks after it.
 pub(crate) fn chunks_from<V>(chunks: &[Chunk<V>], id: VertexId) -> (&[(VertexId, V)], &[Chunk<V>])
     requires chunks { AreChunks chunks.now }
     requires rise { HasRisingIds (entries_of chunks.now) }
@@ -86,7 +86,7 @@ pub(crate) fn chunks_from<V>(chunks: &[Chunk<V>], id: VertexId) -> (&[(VertexId,
     (entries, chunks)
 }
 
-/// The ids of a map that are left on a walk. A contract sees the list of them.
+/// The ids of a map that remain on a walk. A contract sees the list of them.
 #[derive(Drop)]
 pub struct Ids<'a, V> {
     pub(crate) entries: Iter<'a, V>,

@@ -31,48 +31,48 @@ module _ {V M : Type 0} (job : Job V M) (rows : Rows) where
       last_test {X = Ending} (visible_at job rows s).halt (is_all_idle (configuration job rows (s + 1)))
       (s + 1 == job.limit) MasterHalted Finished LimitReached (eq-eqb (s + 1) job.limit e)
 
-  from-le-length_from : (left s : ℕ) → s ≤ length_from job rows left s
+  from-le-length_from : (remaining s : ℕ) → s ≤ length_from job rows remaining s
   unfolding length_from
   from-le-length_from zero s = omega arith
-  from-le-length_from (suc left) s =
-      let later : s + 1 ≤ length_from job rows left (s + 1) = from-le-length_from left (s + 1) in
-      cond_both (ends_after s) (s + 1) (length_from job rows left (s + 1)) (λ (n : ℕ). s ≤ n) (λ _. omega arith) (λ _. omega arith)
+  from-le-length_from (suc remaining) s =
+      let later : s + 1 ≤ length_from job rows remaining (s + 1) = from-le-length_from remaining (s + 1) in
+      cond_both (ends_after s) (s + 1) (length_from job rows remaining (s + 1)) (λ (n : ℕ). s ≤ n) (λ _. omega arith) (λ _. omega arith)
 
-  from-lt-length_from : (left s : ℕ) → 0 < left → s < length_from job rows left s
+  from-lt-length_from : (remaining s : ℕ) → 0 < remaining → s < length_from job rows remaining s
   unfolding length_from
   from-lt-length_from zero s h = absurd (omega arith)
-  from-lt-length_from (suc left) s h =
-      let later : s + 1 ≤ length_from job rows left (s + 1) = from-le-length_from left (s + 1) in
-      cond_both (ends_after s) (s + 1) (length_from job rows left (s + 1)) (λ (n : ℕ). s < n) (λ _. omega arith) (λ _. omega arith)
+  from-lt-length_from (suc remaining) s h =
+      let later : s + 1 ≤ length_from job rows remaining (s + 1) = from-le-length_from remaining (s + 1) in
+      cond_both (ends_after s) (s + 1) (length_from job rows remaining (s + 1)) (λ (n : ℕ). s < n) (λ _. omega arith) (λ _. omega arith)
 
-  length_from-le : (left s : ℕ) → length_from job rows left s ≤ s + left
+  length_from-le : (remaining s : ℕ) → length_from job rows remaining s ≤ s + remaining
   unfolding length_from
   length_from-le zero s = omega arith
-  length_from-le (suc left) s =
-      let later : length_from job rows left (s + 1) ≤ s + 1 + left = length_from-le left (s + 1) in
-      cond_both (ends_after s) (s + 1) (length_from job rows left (s + 1)) (λ (n : ℕ). n ≤ s + suc left) (λ _. omega arith) (λ _. omega arith)
+  length_from-le (suc remaining) s =
+      let later : length_from job rows remaining (s + 1) ≤ s + 1 + remaining = length_from-le remaining (s + 1) in
+      cond_both (ends_after s) (s + 1) (length_from job rows remaining (s + 1)) (λ (n : ℕ). n ≤ s + suc remaining) (λ _. omega arith) (λ _. omega arith)
 
   one_less : (s : ℕ) → s + 1 - 1 ≡ s
   one_less s = omega arith
 
-  ends_at : (left s : ℕ) → 0 < left → s + left ≡ job.limit → ends_after (length_from job rows left s - 1) ≡ true
+  ends_at : (remaining s : ℕ) → 0 < remaining → s + remaining ≡ job.limit → ends_after (length_from job rows remaining s - 1) ≡ true
   unfolding length_from
   ends_at zero s h e = absurd (omega arith)
   ends_at (suc zero) s h e =
       let here : ends_after (s + 1 - 1) ≡ true = subst (λ (n : ℕ). ends_after n ≡ true) (sym (one_less s)) (ends_at_limit s (omega arith)) in
       cond_both (ends_after s) (s + 1) (s + 1) (λ (n : ℕ). ends_after (n - 1) ≡ true) (λ _. here) (λ _. here)
-  ends_at (suc (suc left)) s h e =
-      let later : ends_after (length_from job rows (suc left) (s + 1) - 1) ≡ true = ends_at (suc left) (s + 1) (omega arith) (omega arith) in
-      cond_both (ends_after s) (s + 1) (length_from job rows (suc left) (s + 1)) (λ (n : ℕ). ends_after (n - 1) ≡ true)
+  ends_at (suc (suc remaining)) s h e =
+      let later : ends_after (length_from job rows (suc remaining) (s + 1) - 1) ≡ true = ends_at (suc remaining) (s + 1) (omega arith) (omega arith) in
+      cond_both (ends_after s) (s + 1) (length_from job rows (suc remaining) (s + 1)) (λ (n : ℕ). ends_after (n - 1) ≡ true)
       (λ t. subst (λ (n : ℕ). ends_after n ≡ true) (sym (one_less s)) t) (λ _. later)
 
-  goes_on_from : (left s t : ℕ) → s ≤ t → t + 1 < length_from job rows left s → ends_after t ≡ false
+  goes_on_from : (remaining s t : ℕ) → s ≤ t → t + 1 < length_from job rows remaining s → ends_after t ≡ false
   unfolding length_from
   goes_on_from zero s t h k = absurd (omega arith)
-  goes_on_from (suc left) s t h k = by (ends_after s) refl k (goes_on_from left (s + 1) t)
+  goes_on_from (suc remaining) s t h k = by (ends_after s) refl k (goes_on_from remaining (s + 1) t)
     where
-      by : (b : Bool) → ends_after s ≡ b → t + 1 < cond b (s + 1) (length_from job rows left (s + 1))
-          → (s + 1 ≤ t → t + 1 < length_from job rows left (s + 1) → ends_after t ≡ false) → ends_after t ≡ false
+      by : (b : Bool) → ends_after s ≡ b → t + 1 < cond b (s + 1) (length_from job rows remaining (s + 1))
+          → (s + 1 ≤ t → t + 1 < length_from job rows remaining (s + 1) → ends_after t ≡ false) → ends_after t ≡ false
       by true e k' later = absurd (omega arith)
       by false e k' later = elim (eq-or-lt_of_le h) [ inl same ↦ subst (λ (n : ℕ). ends_after n ≡ false) same e | inr less ↦ later (omega arith) k' ]
 

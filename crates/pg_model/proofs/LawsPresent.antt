@@ -382,7 +382,7 @@ module _ {V M : Type 0} (job : Job V M) (rows : Rows) where
           inputs = none;
           sent = ap (read_off (λ r. r.sent)) (outcome_then there.0 there.1 there.2);
           contributed = ap (read_off (λ r. r.contributed)) (outcome_then there.0 there.1 there.2);
-          state = state_at-next s id ∙ (ap (option_map (state_left job rows s)) there.1 ∙ (left there.0 there.2 ∙ before_idle there.0 there.1 there.2));
+          state = state_at-next s id ∙ (ap (option_map (state_left job rows s)) there.1 ∙ (remaining there.0 there.2 ∙ before_idle there.0 there.1 there.2));
         }
       ]
     where
@@ -397,8 +397,8 @@ module _ {V M : Type 0} (job : Job V M) (rows : Rows) where
       before_idle x at idles =
           idle_with job.program id (state_at job rows s id) (inbox_at job rows s id) x (sym at ∙ with_inbox_at-state s id) idles
 
-      left : (x : VertexWithInbox V M) → is_active x ≡ false → Some (state_left job rows s x) ≡ Some x.state
-      left x idles = ap Some (state_after-idle job.program view x idles)
+      remaining : (x : VertexWithInbox V M) → is_active x ≡ false → Some (state_left job rows s x) ≡ Some x.state
+      remaining x idles = ap Some (state_after-idle job.program view x idles)
 
       outcome_then : (x : VertexWithInbox V M) → with_inbox_at id (present_at job rows s) ≡ Some x → is_active x ≡ false → outcome_at job rows s id ≡ Some (idle x.state)
       outcome_then x at idles = ap (option_map (outcome_in job rows s)) at ∙ ap Some (outcome-idle job.program view x idles)

@@ -159,17 +159,18 @@ decides_nothing s totals gathered = record { values = gathered; halt = false }
 
 -- ---- peel: 1 for the vertices of the k-core, 0 for those that are removed
 abbrev pub edges_left : EdgeList → List ℤ → EdgeList
-edges_left edges messages = fold (λ left m. cond (int_le (pos 0) m) (without_edge (nat_abs m) left) left) edges messages
+edges_left edges messages =
+    fold (λ remaining m. cond (int_le (pos 0) m) (without_edge (nat_abs m) remaining) remaining) edges messages
 
 unfoldable pub peel_step : ℕ → Inputs ℤ ℤ → Record ℤ ℤ
 peel_step k i =
-    let left : EdgeList = edges_left i.edges i.inbox in
-    let is_removed : Bool = int_eq i.value (pos 1) && nat_lt (length left) k in
+    let remaining : EdgeList = edges_left i.edges i.inbox in
+    let is_removed : Bool = int_eq i.value (pos 1) && nat_lt (length remaining) k in
     record {
       value = cond is_removed (pos 0) i.value;
-      edges = left;
+      edges = remaining;
       halted = true;
-      sent = cond is_removed (to_all (pos i.id) left) [];
+      sent = cond is_removed (to_all (pos i.id) remaining) [];
       contributed = cond is_removed (contributed (pos 1)) [];
     }
 
@@ -194,7 +195,7 @@ tally_step i =
 abbrev pub tally : Program (ℤ × List ℤ) ℤ
 tally = record { declared = only_writes 0; initial = λ id input. (input, []); step = tally_step }
 
--- ---- Shed: a vertex takes away its first edge, and then tells how many edges are left in all
+-- ---- Shed: a vertex takes away its first edge, and then tells how many edges remain in all
 unfoldable pub shed_step : Inputs ℤ ℤ → Record ℤ ℤ
 shed_step i =
     let is_first : Bool = i.view.superstep == 0 in

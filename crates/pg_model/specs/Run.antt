@@ -53,10 +53,10 @@ module _ {V M : Type 0} (job : Job V M) where
     abbrev pub ending_after : ℕ → Option Ending
     ending_after s = ending job s (configuration s) (configuration (s + 1))
 
-    -- the first number of supersteps above s, at most `left` more, with which the run ends
+    -- the first number of supersteps above s, at most `remaining` more, with which the run ends
     unfoldable pub length_from : ℕ → ℕ → ℕ
     length_from zero s = s
-    length_from (suc left) s = cond (is_some (ending_after s)) (s + 1) (length_from left (s + 1))
+    length_from (suc remaining) s = cond (is_some (ending_after s)) (s + 1) (length_from remaining (s + 1))
 
     -- how many supersteps are executed
     abbrev pub run_length : ℕ

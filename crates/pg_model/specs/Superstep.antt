@@ -215,7 +215,8 @@ module _ {V M : Type 0} (job : Job V M) where
         dropped = capped (c.dropped + dropped_count job.missing undeliverables);
       }
 
-  -- the test after superstep s, which began with c and left d: the master halted, all is idle, the limit is reached
+  -- the test after superstep s, which began with c and ended with d: the master halted, all is idle, the limit is
+  -- reached
   abbrev pub ending : ℕ → Configuration V M → Configuration V M → Option Ending
   ending s c d =
       cond (visible s c).halt (Some MasterHalted)

@@ -128,14 +128,14 @@ module _ {V M : Type 0} where
       (subst (λ (x : Rows). (earlier : PartitionStats) → slice_get now k ≡ Some earlier → IsStatsHistoryByRecords registry x part_run k earlier next) same_graph h))
 
 -- who stands in the midst of a list has fewer before it than that has
-pub fewer_before : {X : Type 0} (before rest : List X) (x : X) {left whole : List X} → left ≡ x ∷ rest → before ++ left ≡ whole → length before < length whole
-fewer_before before rest x {left} {whole} next is =
+pub fewer_before : {X : Type 0} (before rest : List X) (x : X) {remaining whole : List X} → remaining ≡ x ∷ rest → before ++ remaining ≡ whole → length before < length whole
+fewer_before before rest x {remaining} {whole} next is =
     let all = length-append before (x ∷ rest) in
     let same : length (before ++ x ∷ rest) ≡ length whole = ap (λ l. length (before ++ l)) (sym next) ∙ ap length is in
     omega (arith, all, same)
 
 -- what holds of each of a list holds of one in the midst of it
-pub of_each : {X : Type 0} (P : X → Type 0) (before rest : List X) (x : X) {left whole : List X} → left ≡ x ∷ rest → before ++ left ≡ whole
+pub of_each : {X : Type 0} (P : X → Type 0) (before rest : List X) (x : X) {remaining whole : List X} → remaining ≡ x ∷ rest → before ++ remaining ≡ whole
     → AllByRecursion P whole → P x
 of_each {X} P before rest x next is all = among before (subst (AllByRecursion P) (sym (ap (λ l. before ++ l) (sym next) ∙ is)) all)
   where

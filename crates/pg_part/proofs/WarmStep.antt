@@ -109,8 +109,8 @@ module _ {V M : Type 0} (value_eq : V → V → Bool) (message_eq : M → M → 
   abbrev taken : VertexPair V M → Bool
   taken c = is_taken_over value_eq message_eq (is_same_view old_view view) c
 
-  abbrev left : VertexPair V M → Bool
-  left c = is_reused value_eq message_eq (is_same_view old_view view) c
+  abbrev reused : VertexPair V M → Bool
+  reused c = is_reused value_eq message_eq (is_same_view old_view view) c
 
   abbrev gives : VertexPair V M → Option (Record V M)
   gives c = option_map job.program.step (reads view c.new)
@@ -134,7 +134,7 @@ module _ {V M : Type 0} (value_eq : V → V → Bool) (message_eq : M → M → 
       sym (inputs_once c k) ∙ (ap (λ v. reads v c.old) views ∙ (same ∙ inputs_now c k))
 
   -- and one that is left reads the same, or nothing in both
-  left_same : (c : VertexPair V M) → IsKnown c → left c ≡ true → inputs_at job old s c.id ≡ inputs_at job rows s c.id
+  left_same : (c : VertexPair V M) → IsKnown c → reused c ≡ true → inputs_at job old s c.id ≡ inputs_at job rows s c.id
   left_same c k h = by (taken c) refl h
     where
       by : (b : Bool) → taken c ≡ b → (b || are_inactive c.old c.new) ≡ true → inputs_at job old s c.id ≡ inputs_at job rows s c.id
@@ -155,13 +155,13 @@ module _ {V M : Type 0} (value_eq : V → V → Bool) (message_eq : M → M → 
   rising = w.holds.run.rise
 
   abbrev changes : List (ℕ × Option (Record V M))
-  changes = entries (λ c. c.id) left gives cs
+  changes = entries (λ c. c.id) reused gives cs
 
   changed : step_delta.changes ≡ changes
   changed = w.is.changes_are
 
   changes_rise : ChangesRise changes
-  changes_rise = entries-rise (λ c. c.id) left gives cs rise
+  changes_rise = entries-rise (λ c. c.id) reused gives cs rise
 
   abbrev dirty_ids : List ℕ
   dirty_ids = step_delta.dirty_ids.items
@@ -187,7 +187,7 @@ module _ {V M : Type 0} (value_eq : V → V → Bool) (message_eq : M → M → 
         | inr apart ↦ no_other_record job old n p s id apart ∙ sym (no_other_record job rows n p s id apart)
       ]
 
-  right : (c : VertexPair V M) → IsKnown c → IsRight left gives (records_in job old n p s) (records_in job rows n p s) c
+  right : (c : VertexPair V M) → IsKnown c → IsRight reused gives (records_in job old n p s) (records_in job rows n p s) c
   right c k = record {
     kept = λ h.
         record_in_share job old n p s c.id old_rising there k.now.mine
@@ -197,8 +197,8 @@ module _ {V M : Type 0} (value_eq : V → V → Bool) (message_eq : M → M → 
 
   new_records : with_changes changes (records_in job old n p s) ≡ records_in job rows n p s
   new_records =
-      records_are left gives (records_in job old n p s) (records_in job rows n p s) cs rise
-      (all_weaker IsKnown (IsRight left gives (records_in job old n p s) (records_in job rows n p s)) right cs known)
+      records_are reused gives (records_in job old n p s) (records_in job rows n p s) cs rise
+      (all_weaker IsKnown (IsRight reused gives (records_in job old n p s) (records_in job rows n p s)) right cs known)
       (records_rise job old n p s old_rising) (records_rise job rows n p s rising) same_record
 
   -- ---- executions
@@ -331,7 +331,7 @@ module _ {V M : Type 0} (value_eq : V → V → Bool) (message_eq : M → M → 
         (subst (AllByRecursion (λ k. belongs n p k ≡ true)) (sym w.is.dirty_ids_are)
         (all_mine value_eq message_eq job old rows n p s part_run logs old_logs old_view view bundles before step_delta w));
     records = λ id other.
-        sym (unchanged_at changes (records_in job old n p s) id (entries-among (λ c. c.id) left gives id cs (not_vertex_pair id other)))
+        sym (unchanged_at changes (records_in job old n p s) id (entries-among (λ c. c.id) reused gives id cs (not_vertex_pair id other)))
         ∙ ap (value_at id) new_records;
     states = λ id mine other. elim (cases_Bool (has_id part_run.quiescent id)) [
       | inl both_quiescent ↦ inr (still id mine other both_quiescent)

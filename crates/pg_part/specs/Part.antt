@@ -36,7 +36,7 @@ module _ {V M : Type 0} (job : Job V M) where
     pub whole : IsWhole job rows n p retained.trace
     pub stats_are : retained.stats ≡ stats_to rows n p (run_length job rows)
 
-  -- a warm one has what it left of the run on the old rows
+  -- a warm one has what it retained of the run on the old rows
   abbrev pub HasOldStats : Option Rows → Rows → ℕ → ℕ → PartState V M → Type 0
   HasOldStats None rows n p part = Unit {0}
   HasOldStats (Some old) rows n p part =

@@ -84,7 +84,7 @@ impl<V, M> Model for RetainedPart<V, M> {
     ghost invariant = { λ l. 0 < length l.stats.items };
 }
 
-/// What a partition has no more use for once it has left a run: the trace of the old run, where it was warm, as far as
+/// What a partition has no more use for once it has done a run: the trace of the old run, where it was warm, as far as
 /// its own is another. It is kept only to be freed at a time when no caller waits. A contract sees nothing of it.
 pub struct DeferredPartDrop<V, M> {
     kept: Option<Trace<V, M>>,
@@ -196,9 +196,9 @@ impl<V: Plain, M: Plain> Part<V, M> {
         })
     }
 
-    /// A partition as a run begins against an old one: with what it left of that, with ids outside of which the graph's
-    /// rows are those of the old run's graph, and with those of them that are a vertex of just one of the two graphs.
-    /// Costs k look-ups for k such ids, a sort of them, a copy of the chunks of the trace's first states that they lie
+    /// A partition as a run begins against an old one: with what it retained of that, with ids outside of which the
+    /// graph's rows are those of the old run's graph, and with those of them that are a vertex of just one of the two
+    /// graphs. Costs k look-ups for k such ids, a sort of them, a copy of the chunks of the trace's first states that they lie
     /// in, and one count a superstep of the old run.
     pub fn begin_warm<P: Computation<Value = V, Message = M>>(
         alloc: Global,

@@ -36,8 +36,8 @@ module _ {V M : Type 0} (program : Program V M) (state vertex vertex' state' : V
   abbrev made : Record V M
   made = step_on program vertex inbox cx
 
-  abbrev left : Executed V
-  left = record { value = state'.value; edges = state'.edges; halted = state'.halted; sent = sent; contributed = contributed }
+  abbrev remaining : Executed V
+  remaining = record { value = state'.value; edges = state'.edges; halted = state'.halted; sent = sent; contributed = contributed }
 
   sends : cx'.sent ≡ cx.sent ++ made.sent
   sends = ap (λ c. c.sent) executes.context_is
@@ -82,13 +82,13 @@ module _ {V M : Type 0} (program : Program V M) (state vertex vertex' state' : V
   -- its part of what was sent and contributed lies where the others' do
   pub executed_within : AreWithin cx'.sent cx'.contributed entries'
   executed_within =
-      within_added cx.sent made.sent cx.contributed made.contributed entries within sends contributes id left pushed (sent_first ∙ sent_begins) sent_count
+      within_added cx.sent made.sent cx.contributed made.contributed entries within sends contributes id remaining pushed (sent_first ∙ sent_begins) sent_count
       (contributed_first ∙ contributed_begins) contributed_count
 
   pub executed : changes_in cx'.sent cx'.contributed entries'
       ≡ changes_in cx.sent cx.contributed entries ++ (id, Some (program.step (inputs_of cx.view (record { state = state; inbox = inbox })))) ∷ []
   executed =
-      one_added cx.sent made.sent cx.contributed made.contributed entries within sends contributes id left pushed (sent_first ∙ sent_begins) sent_count
+      one_added cx.sent made.sent cx.contributed made.contributed entries within sends contributes id remaining pushed (sent_first ∙ sent_begins) sent_count
       (contributed_first ∙ contributed_begins) contributed_count refl
       ∙ ap (λ r. changes_in cx.sent cx.contributed entries ++ (id, Some r) ∷ []) made_is
 

@@ -4,7 +4,7 @@ pub mod Coverage
 pub mod Executing
 pub mod Finding
 pub mod Looking
-pub mod Playing
+pub mod StepDeltas
 pub mod ReadVertices
 pub mod Recording
 pub mod Sames

@@ -119,10 +119,10 @@ module _ {V M : Type 0} (program : Program V M) (view : View) (missing : Missing
       (all_from_lookups (λ w. IsOf (found w)) ws rise
       (λ q y at x h. ap (λ (z : List M). found_at program missing s trace (q, z)) (same_Some y x (sym at ∙ h))))
 
-  left : (id : ℕ) (x : List M) → value_at id ws ≡ Some x
+  remaining : (id : ℕ) (x : List M) → value_at id ws ≡ Some x
       → value_at id (with_changes changes []) ≡ option_map program.step (reads view (found_at program missing s trace (id, x)))
   unfolding changes found IsOf gives
-  left id x at =
+  remaining id x at =
       let here : has_id (map (λ c. c.id) (map found ws)) id ≡ true = ap (λ l. has_id l id) ids ∙ (sym (has_key id ws) ∙ ap is_some at) in
       let e = entries-some (λ c. c.id) (λ c. not (is_running c.new)) (λ c. gives program view c.new) IsOf id (map found ws) rises are_of here in
       value_at-with_changes changes [] id (entries-rise (λ c. c.id) (λ c. not (is_running c.new)) (λ c. gives program view c.new) (map found ws) rises)
@@ -141,6 +141,6 @@ module _ {V M : Type 0} (program : Program V M) (view : View) (missing : Missing
     added = are.added
         ∙ ap vertex_counts_of (each (λ w. option_to_list (left_cold program view missing s trace w)) (λ w. option_to_list (state_at w.0 (s + 1) (next s trace are.next changes))) ws
         (all_from_lookups (λ w. option_to_list (left_cold program view missing s trace w) ≡ option_to_list (state_at w.0 (s + 1) (next s trace are.next changes))) ws rise
-        (λ id x at. ap option_to_list (sym (state_next s trace are.next changes id ∙ ap (λ g. state_after id g (state_at id s trace)) (left id x at)))))
+        (λ id x at. ap option_to_list (sym (state_next s trace are.next changes id ∙ ap (λ g. state_after id g (state_at id s trace)) (remaining id x at)))))
         ∙ sym (flat_map-map (λ id. option_to_list (state_at id (s + 1) (next s trace are.next changes))) (λ w. w.0) ws));
   }

@@ -75,11 +75,11 @@ module _ {V M : Type 0} where
     abbrev pub HaveValues : VertexPair V M → Type 0
     HaveValues c = HasValues c.old × HasValues c.new
 
-  -- what its execution makes of its record, or that there is none, unless the record is left
+  -- what its execution makes of its record, or that there is none, unless the record stays
   abbrev pub change_unless : Program V M → View → Bool → VertexPair V M → List (ℕ × Option (Record V M))
-  change_unless program view left c = cond left [] ((c.id, option_map program.step (reads view c.new)) ∷ [])
+  change_unless program view reused c = cond reused [] ((c.id, option_map program.step (reads view c.new)) ∷ [])
 
-  -- the same where there is no other run: the record is left unless it is executed
+  -- the same where there is no other run: the record stays unless it is executed
   abbrev pub change_cold : Program V M → View → VertexPair V M → List (ℕ × Option (Record V M))
   change_cold program view c = change_unless program view (not (is_running c.new)) c
 

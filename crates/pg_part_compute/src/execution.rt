@@ -51,12 +51,12 @@ impl StepContext {
 }
 
 /// The executions of a superstep, one after another: the context in which they send and contribute, what each vertex
-/// has left, or that it has no record any more, and room for changed edges. What was sent and contributed lies side by
-/// side in the context, and each execution has its part of it.
+/// has produced, or that it has no record any more, and room for changed edges. What was sent and contributed lies side
+/// by side in the context, and each execution has its part of it.
 #[derive(Drop)]
 pub(crate) struct Executor<V, M> {
     cx: Cx<M>,
-    left: Vec<(VertexId, Option<Executed<V>>)>,
+    produced: Vec<(VertexId, Option<Executed<V>>)>,
     room: EdgeRoom,
 }
 
@@ -79,7 +79,7 @@ impl<V: Drop, M: Drop> Executor<V, M> {
         let contributed = Sequence::new(alloc);
         Ok(Executor {
             cx: Cx::with_room(view, program.declared(), meter, sent, contributed),
-            left: Vec::with_capacity(alloc, vertices)?,
+            produced: Vec::with_capacity(alloc, vertices)?,
             room: EdgeRoom::new(alloc),
         })
     }
@@ -88,18 +88,18 @@ impl<V: Drop, M: Drop> Executor<V, M> {
     pub(crate) fn len(&self) -> usize
         ensures { result ≡ length (changes_of self.now) }
     {
-        self.left.len()
+        self.produced.len()
     }
 
     /// The record that the change at a place gives, if there is one.
     #[inline(always)]
     pub(crate) fn given_at(&self, place: usize) -> Option<RecordRef<'_, V, M>>
-        requires { AreWithin self.now.cx.sent self.now.cx.contributed self.now.left.items }
+        requires { AreWithin self.now.cx.sent self.now.cx.contributed self.now.produced.items }
         ensures { result ≡ given_at (changes_of self.now) place }
     {
-        let (_, left) = self.left.get(place)?;
-        match left {
-            Some(left) => Some(record_of(self.cx.sent(), self.cx.contributed(), left)),
+        let (_, produced) = self.produced.get(place)?;
+        match produced {
+            Some(produced) => Some(record_of(self.cx.sent(), self.cx.contributed(), produced)),
             None => None,
         }
     }
@@ -110,17 +110,17 @@ impl<V: Drop, M: Drop> Executor<V, M> {
         dirty_ids: Vec<VertexId>,
         vertex_counts_delta: Option<VertexCountsDelta>,
     ) -> StepDelta<V, M>
-        requires { AreWithin self.cx.sent self.cx.contributed self.left.items }
+        requires { AreWithin self.cx.sent self.cx.contributed self.produced.items }
         ensures dirty_ids { result.dirty_ids.items ≡ dirty_ids.items }
         ensures changes { result.changes ≡ changes_of self }
         ensures meter { result.meter ≡ self.cx.calls }
         ensures vertex_counts_delta { result.vertex_counts_delta ≡ vertex_counts_delta }
     {
-        let Executor { cx, left, .. } = self;
+        let Executor { cx, produced, .. } = self;
         let (_view, sent, contributed, meter) = cx.into_parts();
         StepDelta {
             dirty_ids,
-            changes: RecordChanges::of(left, sent.into_vec(), contributed.into_vec()),
+            changes: RecordChanges::of(produced, sent.into_vec(), contributed.into_vec()),
             meter,
             vertex_counts_delta,
         }
@@ -214,20 +214,20 @@ fn execute_other<P: Computation>(
 {
     let VertexPair { id, old, new } = vertex_pair;
     let stops = is_stopping(&old, &new);
-    push_if_stopping(&mut executor.left, stops, id)?;
+    push_if_stopping(&mut executor.produced, stops, id)?;
     execute_vertex(alloc, program, id, new, executor)
 }
 
 /// Adds that there is no record any more, where a vertex stops running.
 fn push_if_stopping<V: Drop>(
-    left: &mut Vec<(VertexId, Option<Executed<V>>)>,
+    produced: &mut Vec<(VertexId, Option<Executed<V>>)>,
     stops: bool,
     id: VertexId,
 ) -> Result<(), Memory>
-    ensures { OnOk result (left.new.items ≡ left.old.items ++ cond stops ((id, None) ∷ []) []) }
+    ensures { OnOk result (produced.new.items ≡ produced.old.items ++ cond stops ((id, None) ∷ []) []) }
 {
     if stops {
-        left.push((id, None))?;
+        produced.push((id, None))?;
     }
     Ok(())
 }
@@ -322,7 +322,7 @@ fn execute<P: Computation>(
     program.compute(alloc, &mut vertex, delivered, &mut executor.cx)?;
     let (state, room) = vertex.into_parts(alloc)?;
     executor.room = room;
-    let left = Executed {
+    let produced = Executed {
         value: state.value,
         edges: state.edges,
         halted: state.halted,
@@ -330,7 +330,7 @@ fn execute<P: Computation>(
         contributed: Extent::between(contributed, executor.cx.contributed().len())?,
     };
     // `push` hands the entry back where memory is refused, and so it goes through memory once more.
-    executor.left.reserve(1)?;
-    executor.left.push_reserved((id, Some(left)));
+    executor.produced.reserve(1)?;
+    executor.produced.push_reserved((id, Some(produced)));
     Ok(())
 }

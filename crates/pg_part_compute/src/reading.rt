@@ -56,14 +56,14 @@ pub(crate) fn with_empty<M: Plain>(
     ensures { IfOk result (λ all. all ≡ with_empty ids.now inboxes.now) }
 {
     let mut all = Inboxes::new(alloc, ids.len().max(inboxes.len()))?;
-    let mut left = ids;
+    let mut remaining = ids;
     for place in 0..inboxes.len() {
         let (id, messages) = inboxes.at(place);
-        let (put, above) = put_below(all, left, id)?;
+        let (put, above) = put_below(all, remaining, id)?;
         all = put.with_copies(alloc, id, messages)?;
-        left = above;
+        remaining = above;
     }
-    put_empty(all, left)
+    put_empty(all, remaining)
 }
 
 /// Adds empty inboxes for those of these ids that are below one, and gives those above it.
@@ -78,18 +78,18 @@ fn put_below<M: Plain>(
         → r.0 ++ (id, inbox) ∷ with_empty r.1.now later ≡ inboxes ++ with_empty ids.now ((id, inbox) ∷ later)) }
 {
     let mut all = inboxes;
-    let mut left = ids;
-    while let Some((first, others)) = left.split_first() {
+    let mut remaining = ids;
+    while let Some((first, others)) = remaining.split_first() {
         if *first == id {
             return Ok((all, others));
         }
         if id < *first {
-            return Ok((all, left));
+            return Ok((all, remaining));
         }
         all = all.with_none(*first)?;
-        left = others;
+        remaining = others;
     }
-    Ok((all, left))
+    Ok((all, remaining))
 }
 
 /// Adds empty inboxes for these ids.

@@ -227,7 +227,7 @@ fn room_for_messages(received: usize) -> usize {
     received.saturating_add(received / 4)
 }
 
-/// Censuses before and after a superstep, where it comes next in a trace.
+/// Vertex counts before and after a superstep, where it comes next in a trace.
 fn vertex_counts_delta_next<V: Drop, M: Drop>(
     trace: &Trace<V, M>,
     superstep: Superstep,

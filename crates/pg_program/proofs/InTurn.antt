@@ -110,17 +110,17 @@ module _ {A : Type 0} (is_value : A → Type 0) (coding : A → List ℕ) where
 
   -- whatever is found behind the items is found behind the others
   abbrev pub IsBehind : ℕ → List ℕ → List A → ℕ → List ℕ → Type 0
-  IsBehind count bytes items left rest = (found : Option (List A × List ℕ)) → AreRead left rest found → AreRead count bytes (onto items found)
+  IsBehind count bytes items remaining rest = (found : Option (List A × List ℕ)) → AreRead remaining rest found → AreRead count bytes (onto items found)
 
   pub begins : (count : ℕ) (bytes : List ℕ) → IsBehind count bytes [] count bytes
   begins count bytes None h = h
   begins count bytes (Some x) h = h
 
-  pub is_done : (count : ℕ) (bytes : List ℕ) (items : List A) (left : ℕ) (rest : List ℕ) → left ≤ 0 → IsBehind count bytes items left rest
+  pub is_done : (count : ℕ) (bytes : List ℕ) (items : List A) (remaining : ℕ) (rest : List ℕ) → remaining ≤ 0 → IsBehind count bytes items remaining rest
       → AreRead count bytes (Some (items, rest))
-  is_done count bytes items left rest none h =
-      let no : left ≡ 0 = omega arith in
-      let end : AreRead left rest (Some ([], rest)) = record {
+  is_done count bytes items remaining rest none h =
+      let no : remaining ≡ 0 = omega arith in
+      let end : AreRead remaining rest (Some ([], rest)) = record {
         front = ((sym no, tt), refl);
         all = λ xs more v is. ended xs more (v.0 ∙ no) is;
       } in
@@ -130,12 +130,12 @@ module _ {A : Type 0} (is_value : A → Type 0) (coding : A → List ℕ) where
       ended [] more len is = ap (λ (l : List ℕ). Some ([], l)) is
       ended (x ∷ xs) more len is = absurd cc
 
-  one_more : (left : ℕ) (rest : List ℕ) (item : A) (after : List ℕ) (found : Option (List A × List ℕ)) → 0 < left
-      → IsRead is_value coding rest (Some (item, after)) → AreRead (left - 1) after found → AreRead left rest (onto (item ∷ []) found)
-  one_more left rest item after found some h k = record { front = fronts found k; all = λ xs more v is. whole xs more v is }
+  one_more : (remaining : ℕ) (rest : List ℕ) (item : A) (after : List ℕ) (found : Option (List A × List ℕ)) → 0 < remaining
+      → IsRead is_value coding rest (Some (item, after)) → AreRead (remaining - 1) after found → AreRead remaining rest (onto (item ∷ []) found)
+  one_more remaining rest item after found some h k = record { front = fronts found k; all = λ xs more v is. whole xs more v is }
     where
-      fronts : (found : Option (List A × List ℕ)) → AreRead (left - 1) after found
-          → IfSome (onto (item ∷ []) found) (λ x. are_so_many is_value left x.0 × (rest ≡ flat_map coding x.0 ++ x.1))
+      fronts : (found : Option (List A × List ℕ)) → AreRead (remaining - 1) after found
+          → IfSome (onto (item ∷ []) found) (λ x. are_so_many is_value remaining x.0 × (rest ≡ flat_map coding x.0 ++ x.1))
       fronts None k = tt
       fronts (Some x) k = (
         (omega (arith, k.front.0.0), (h.front.0, k.front.0.1)),
@@ -143,31 +143,31 @@ module _ {A : Type 0} (is_value : A → Type 0) (coding : A → List ℕ) where
             ∙ ap (λ l. l ++ x.1) (sym (flat_map-cons coding item x.0)),
       )
 
-      whole : (xs : List A) (more : List ℕ) → are_so_many is_value left xs → rest ≡ flat_map coding xs ++ more → onto (item ∷ []) found ≡ Some (xs, more)
+      whole : (xs : List A) (more : List ℕ) → are_so_many is_value remaining xs → rest ≡ flat_map coding xs ++ more → onto (item ∷ []) found ≡ Some (xs, more)
       whole [] more v is = absurd (omega (arith, v.0))
       whole (x ∷ xs) more v is =
           let same : same_pair (item, after) (x, flat_map coding xs ++ more) = some_is _ _ (h.all x (flat_map coding xs ++ more) v.1.0
           (is ∙ ap (λ l. l ++ more) (flat_map-cons coding x xs) ∙ append_assoc (coding x) (flat_map coding xs) more)) in
-          let len : length xs ≡ left - 1 = omega (arith, v.0) in
+          let len : length xs ≡ remaining - 1 = omega (arith, v.0) in
           let it : found ≡ Some (xs, more) = k.all xs more (len, v.1.1) (ap (λ (y : A × List ℕ). y.1) same) in
           rw it (ap (λ (y : A). Some (y ∷ xs, more)) (ap (λ (y : A × List ℕ). y.0) same))
 
-  pub goes_on : (count : ℕ) (bytes : List ℕ) (items : List A) (left : ℕ) (rest : List ℕ) (item : A) (after : List ℕ) → 0 < left
-      → IsRead is_value coding rest (Some (item, after)) → IsBehind count bytes items left rest
-      → IsBehind count bytes (items ++ item ∷ []) (left - 1) after
-  goes_on count bytes items left rest item after some h so_far found k =
+  pub goes_on : (count : ℕ) (bytes : List ℕ) (items : List A) (remaining : ℕ) (rest : List ℕ) (item : A) (after : List ℕ) → 0 < remaining
+      → IsRead is_value coding rest (Some (item, after)) → IsBehind count bytes items remaining rest
+      → IsBehind count bytes (items ++ item ∷ []) (remaining - 1) after
+  goes_on count bytes items remaining rest item after some h so_far found k =
       subst (λ (f : Option (List A × List ℕ)). AreRead count bytes f) (regroup found)
-      (so_far (onto (item ∷ []) found) (one_more left rest item after found some h k))
+      (so_far (onto (item ∷ []) found) (one_more remaining rest item after found some h k))
     where
       regroup : (found : Option (List A × List ℕ)) → onto items (onto (item ∷ []) found) ≡ onto (items ++ item ∷ []) found
       regroup None = refl
       regroup (Some x) = ap (λ (l : List A). Some (l, x.1)) (sym (append_assoc items (item ∷ []) x.0))
 
-  pub ends : (count : ℕ) (bytes : List ℕ) (items : List A) (left : ℕ) (rest : List ℕ) → 0 < left
-      → IsRead is_value coding rest None → IsBehind count bytes items left rest → AreRead count bytes None
-  ends count bytes items left rest some h so_far = so_far None (record { front = tt; all = λ xs more v is. absurd (none xs more v is) })
+  pub ends : (count : ℕ) (bytes : List ℕ) (items : List A) (remaining : ℕ) (rest : List ℕ) → 0 < remaining
+      → IsRead is_value coding rest None → IsBehind count bytes items remaining rest → AreRead count bytes None
+  ends count bytes items remaining rest some h so_far = so_far None (record { front = tt; all = λ xs more v is. absurd (none xs more v is) })
     where
-      none : (xs : List A) (more : List ℕ) → are_so_many is_value left xs → rest ≡ flat_map coding xs ++ more → ⊥
+      none : (xs : List A) (more : List ℕ) → are_so_many is_value remaining xs → rest ≡ flat_map coding xs ++ more → ⊥
       none [] more v is = omega (arith, v.0)
       none (x ∷ xs) more v is = none_some _ (h.all x (flat_map coding xs ++ more) v.1.0
           (is ∙ ap (λ l. l ++ more) (flat_map-cons coding x xs) ∙ append_assoc (coding x) (flat_map coding xs) more))

@@ -26,7 +26,7 @@ pair_with_list : pair_coding integer_coding (list_coding integer_coding) (pos 2,
     ∷ 10 ∷ 0 ∷ 0 ∷ 0 ∷ 0 ∷ 0 ∷ 0 ∷ 0 ∷ 20 ∷ 0 ∷ 0 ∷ 0 ∷ 0 ∷ 0 ∷ 0 ∷ 0 ∷ []
 pair_with_list = refl
 
--- what is found with bytes left over
+-- what is found with bytes to spare
 seven_and_more : (found : Option (ℕ × ℕ))
     → IsDecoded is_natural natural_coding (7 ∷ 0 ∷ 0 ∷ 0 ∷ 0 ∷ 0 ∷ 0 ∷ 0 ∷ 5 ∷ []) found → found ≡ Some (7, 8)
 seven_and_more found is = is.all 7 (5 ∷ []) (omega arith) refl

@@ -18,7 +18,7 @@ module _ {V M : Type 0} where
         inbox = inbox;
       })
 
-  -- the vertex is left as the step says, what it sends and contributes is added in its order, and one call is counted
+  -- the vertex becomes what the step says, what it sends and contributes is added in its order, and one call is counted
   pub record Executes (program : Program V M) (vertex vertex' : VertexState V) (inbox : List M)
       (cx cx' : Context M) : Type 0 where
     pub vertex_is : vertex' ≡ state_after vertex (step_on program vertex inbox cx)

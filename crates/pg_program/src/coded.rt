@@ -130,13 +130,13 @@ impl<T: Coded> Coded for Sequence<T> {
         };
         let mut items = Sequence::new(alloc);
         let mut rest = bodies;
-        let mut left = count;
-        while left > 0 {
+        let mut remaining = count;
+        while remaining > 0 {
             match T::decode(alloc, rest)? {
                 Some((item, len)) => {
                     items.push(item)?;
                     rest = behind(rest, len);
-                    left -= 1;
+                    remaining -= 1;
                 }
                 None => return Ok(None),
             }

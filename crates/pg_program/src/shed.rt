@@ -7,7 +7,7 @@ use pg_model::Declared;
 use std::alloc::Global;
 
 /// The sample program in which each vertex first takes away its edge to the least target, and then takes as
-/// its value how many edges are left in all, at most 2^63 - 1.
+/// its value how many edges remain in all, at most 2^63 - 1.
 #[derive(Clone, Copy, Debug, PartialEq, Eq)]
 pub struct Shed;
 
@@ -46,8 +46,8 @@ impl Computation for Shed {
             shed_first(vertex);
             return Ok(());
         }
-        let left = cx.total_edges().min(i64::MAX as u64) as i64;
-        vertex.set_value(left);
+        let remaining = cx.total_edges().min(i64::MAX as u64) as i64;
+        vertex.set_value(remaining);
         vertex.vote_to_halt();
         Ok(())
     }

@@ -89,7 +89,7 @@ impl IdIndex {
         })
     }
 
-    /// Where an id is looked for first: at its slot where no id is left out between the first and the last.
+    /// Where an id is looked for first: at its slot where no id is omitted between the first and the last.
     fn start_of(&self, id: VertexId) -> usize {
         let slot = self.spread.slot(id);
         if self.is_dense {

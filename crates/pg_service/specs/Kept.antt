@@ -5,7 +5,7 @@ use Rattle.pg_graph.specs.Handed.{source_of, Edit}
 use Rattle.pg_graph.specs.Rows.{Rows}
 use Rattle.pg_model.specs.Job.{Job}
 
--- what a run left, and ids that batches have named since
+-- what a run retained, and ids that batches have named since
 pub record KeptRun (V M : Type 0) : Type 0 where
   pub traces : Traces V M
   pub touched : List ℕ

@@ -60,7 +60,7 @@ last_published list = option_map (λ a. a.publication) (last_of list)
 abbrev pub edition_limit : ℕ
 edition_limit = 18446744073709551615
 
--- the fault of a batch where no edition is left for it
+-- the fault of a batch where there is no edition for it any more
 abbrev pub no_edition_left : EditFault
 no_edition_left = record { position = 0; kind = Full }
 
@@ -69,7 +69,7 @@ unfoldable pub next_graph : ℕ → Rows → List Edit → Result Rows EditFault
 next_graph edition graph batch =
     if nat_lt edition edition_limit then batch_edited graph batch else Err no_edition_left
 
--- a batch is tried where an edition is left for it and it isn't too long; only then memory may be
+-- a batch is tried where there is an edition for it and it isn't too long; only then memory may be
 -- wanted
 abbrev pub IsTried : ℕ → List Edit → Type 0
 IsTried edition batch = (edition < edition_limit) × (length batch ≤ batch_limit)

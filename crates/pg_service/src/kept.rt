@@ -15,7 +15,7 @@ use std::marker::Model;
 /// No batch has more edits.
 const BATCH_LIMIT: usize = 100_000;
 
-/// What a run left, and ids outside of which the graph as it stands has the rows of the run's.
+/// What a run retained, and ids outside of which the graph as it stands has the rows of the run's.
 #[derive(Drop)]
 pub(crate) struct KeptRun<V, M: Plain> {
     pub(crate) traces: Traces<V, M>,
@@ -31,7 +31,7 @@ impl<V, M: Plain> Model for KeptRun<V, M> {
 }
 
 impl<V, M: Plain> KeptRun<V, M> {
-    /// What was left by a run on the graph as it stands.
+    /// What was retained of a run on the graph as it stands.
     pub(crate) fn new(alloc: Global, traces: Traces<V, M>) -> KeptRun<V, M>
         ensures { result ≡ record { traces = traces; touched = [] } }
     {

@@ -30,8 +30,8 @@ use std::mem;
 use std::sync::{Arc, Wait};
 
 /// A service: a program with its combiner and its master, whose aggregators have names; a graph with its edition; the
-/// publisher of its answers; what the last run left, against which the next one runs, and what it had no more use for;
-/// and how many runs there were, which stops at 2^64 - 1. It isn't `Drop`, since its publisher waits for readers: end
+/// publisher of its answers; what was retained of the last run, against which the next one runs, and what it had no more
+/// use for; and how many runs there were, which stops at 2^64 - 1. It isn't `Drop`, since its publisher waits for readers: end
 /// it by `close`.
 pub struct Service<P: Computation, C: MessageCombiner<P::Message>, M: MasterCompute> {
     pub(crate) program: P,
@@ -325,7 +325,7 @@ impl<P: Computation, C: MessageCombiner<P::Message>, M: MasterCompute> Service<P
     }
 }
 
-/// The fault of a batch where no edition is left for it.
+/// The fault of a batch where there is no edition for it any more.
 const NO_EDITION_LEFT: EditFault = EditFault {
     position: 0,
     kind: EditKind::Full,

@@ -3,7 +3,7 @@ ghost use Rattle.std.specs.Prelude.{◌≡◌, ◌≤◌, length, nat_lt, true, 
 ghost use Rattle.std.specs.List.Sorted.{IsNonDecreasingBy, IsPartitionPoint};
 
 use crate::HasId;
-use pg_map::VertexId;
+use pg_map::{VertexId, is_below};
 
 /// How many of these items, whose ids don't fall, have an id below one. `near` is a guess at it: from there on it is
 /// looked for by steps that grow twofold, and among all if it is before that.
@@ -48,10 +48,4 @@ fn are_below<T: HasId>(items: &[T], count: usize, id: VertexId) -> bool
         return false;
     }
     count == items.len() || !is_below(items[count].id(), id)
-}
-
-fn is_below(id: VertexId, other: VertexId) -> bool
-    ensures { result ≡ nat_lt id other }
-{
-    id < other
 }

@@ -1,4 +1,4 @@
--- Censuses of more vertices.
+-- Vertex counts of more vertices.
 use Rattle.std.proofs.Common.{◌≡◌, ℕ, ◌+◌, ◌<◌, cond, not, Bool, true, false, List, [], ◌∷◌, ◌++◌, length, get_or, take}
 use Rattle.std.proofs.Common.{refl, ap, subst, sym, ◌∙◌, zero-add, sum_by, Option}
 use Rattle.std.proofs.lemmas.List.{append-nil, length-append, take_more}

@@ -139,7 +139,7 @@ module _ {V M : Type 0} (job : Job V M) (rows : Rows) (n : ℕ) where
           → AreStatsBetween (configuration job rows s) (configuration job rows (suc s)) (global_stats_at (visible_at job rows s).values (suc s))
       unfolding stats_of_all stats_at configuration next
       are_stats_next s fit = record {
-        left = record {
+        ended = record {
           totals = totals_are (visible_at job rows s).values (suc s);
           idle = idle_next s;
           gathered = gathered_next s fit;

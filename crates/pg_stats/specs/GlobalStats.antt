@@ -36,8 +36,8 @@ pub record AreStatsOf {V M : Type 0} (c : Configuration V M) (stats : GlobalStat
   pub idle : stats.is_idle ≡ is_all_idle c
   pub gathered : stats.gathered ≡ c.gathered
 
--- these stats are those of the superstep that began with c and left d
+-- these stats are those of the superstep that began with c and ended with d
 pub record AreStatsBetween {V M : Type 0} (c d : Configuration V M) (stats : GlobalStats) : Type 0 where
-  pub left : AreStatsOf d stats
+  pub ended : AreStatsOf d stats
   pub sent : capped (c.sent + stats.sent) ≡ d.sent
   pub dropped : capped (c.dropped + stats.dropped) ≡ d.dropped

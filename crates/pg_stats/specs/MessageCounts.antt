@@ -86,7 +86,7 @@ module _ {M : Type 0} where
   abbrev pub sent_added : MessageLists M → LoggedBundle M → ℕ
   sent_added before logged = messages_among is_any (changed_targets_of logged) logged.bundle
 
-  -- the same of those that are dropped, where these ids came to the graph or left it
+  -- the same of those that are dropped, where these ids came to the graph or went
   abbrev pub dropped_removed : Missing → Rows → List ℕ → MessageLists M → LoggedBundle M → ℕ
   dropped_removed Drop rows member_changes before logged =
       messages_among (is_no_vertex rows) (changed_targets_of logged) before

@@ -32,7 +32,7 @@ pub record HasCountDelta (before removed added after : VertexCounts) : Type 0 wh
   pub edges : after.edges + removed.edges ≡ before.edges + added.edges
   pub unhalted : after.unhalted + removed.unhalted ≡ before.unhalted + added.unhalted
 
--- the state of an id after a superstep that gave it this record, if any: what that left, or else what there was before
+-- the state of an id after a superstep that gave it this record, if any: the state in that, or else the one before
 abbrev pub state_after : {V M : Type 0} → ℕ → Option (Record V M) → Option (VertexState V) → Option (VertexState V)
 state_after id given before = option_or (option_map (left_by id) given) before
 

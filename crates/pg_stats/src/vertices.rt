@@ -72,7 +72,7 @@ impl VertexCountsDelta {
         ensures { (id : ℕ) → IfOk result (AddsToVertexCountsDelta self before.now given.now id) }
     {
         let added = match given {
-            Some(left) => with_vertex(self.added, left.edges().as_slice().len(), left.halted())?,
+            Some(now) => with_vertex(self.added, now.edges().as_slice().len(), now.halted())?,
             None => with_state(self.added, before)?,
         };
         Ok(VertexCountsDelta {

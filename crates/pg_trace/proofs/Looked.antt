@@ -18,8 +18,8 @@ module _ {V M : Type 0} (initial : List (VertexState V)) (rs : List (List (ℕ �
       ap (λ o. option_or (option_map (left_by id) o) (state_of id initial)) (looked ∙ record_before id rs index is s step last) ∙ ap (state_at id s) are
 
   pub left_found : {r : Record V M} {x : VertexState V} → x ≡ left_by id r → found ≡ Some r → Some x ≡ state_at id s now
-  left_found left there =
-      ap Some left ∙ ap (λ o. option_or (option_map (left_by id) o) (state_of id initial)) (sym there) ∙ state_found
+  left_found produced there =
+      ap Some produced ∙ ap (λ o. option_or (option_map (left_by id) o) (state_of id initial)) (sym there) ∙ state_found
 
   pub begun_found : {o : Option (VertexState V)} → o ≡ state_of id initial → found ≡ None → o ≡ state_at id s now
   begun_found begun there = begun ∙ ap (λ o. option_or (option_map (left_by id) o) (state_of id initial)) (sym there) ∙ state_found

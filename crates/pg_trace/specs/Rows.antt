@@ -7,8 +7,8 @@ use Rattle.pg_trace.specs.Trace.{Trace, first_supersteps, record_at, state_at, w
 abbrev began : ℕ → ℤ → VertexState ℤ
 began id value = record { id = id; value = value; edges = []; halted = false }
 
-abbrev left : ℕ → ℤ → VertexState ℤ
-left id value = record { id = id; value = value; edges = []; halted = true }
+abbrev halted_with : ℕ → ℤ → VertexState ℤ
+halted_with id value = record { id = id; value = value; edges = []; halted = true }
 
 abbrev gave : ℤ → Record ℤ ℤ
 gave value = record { value = value; edges = []; halted = true; sent = []; contributed = [] }
@@ -24,30 +24,30 @@ three = record {
 state_at_first : state_at 3 0 three ≡ Some (began 3 (pos 30))
 state_at_first = refl
 
-state_between : state_at 3 2 three ≡ Some (left 3 (pos 31))
+state_between : state_at 3 2 three ≡ Some (halted_with 3 (pos 31))
 state_between = refl
 
-state_of_the_last_before : state_at 5 2 three ≡ Some (left 5 (pos 52))
+state_of_the_last_before : state_at 5 2 three ≡ Some (halted_with 5 (pos 52))
 state_of_the_last_before = refl
 
 none_before_it_is_made : state_at 7 2 three ≡ None
 none_before_it_is_made = refl
 
-made_by_its_record : state_at 7 3 three ≡ Some (left 7 (pos 70))
+made_by_its_record : state_at 7 3 three ≡ Some (halted_with 7 (pos 70))
 made_by_its_record = refl
 
 record_of_its_superstep : record_at 3 1 three ≡ None
 record_of_its_superstep = refl
 
-cut_forgets : state_at 5 3 (first_supersteps 1 three) ≡ Some (left 5 (pos 51))
+cut_forgets : state_at 5 3 (first_supersteps 1 three) ≡ Some (halted_with 5 (pos 51))
 cut_forgets = refl
 
 replaced_in_the_middle : state_at 5 2 (with_replaced 1 ((3, Some (gave (pos 33))) ∷ (5, None) ∷ []) three)
-    ≡ Some (left 5 (pos 51))
+    ≡ Some (halted_with 5 (pos 51))
 replaced_in_the_middle = refl
 
 replaced_and_kept : state_at 5 3 (with_replaced 1 ((3, Some (gave (pos 33))) ∷ (5, None) ∷ []) three)
-    ≡ Some (left 5 (pos 53))
+    ≡ Some (halted_with 5 (pos 53))
 replaced_and_kept = refl
 
 pushed : record_at 3 3 (with_superstep ((3, gave (pos 34)) ∷ []) three) ≡ Some (gave (pos 34))

@@ -40,7 +40,7 @@ module _ {V M : Type 0} where
   abbrev pub left_by : ℕ → Record V M → VertexState V
   left_by id r = record { id = id; value = r.value; edges = r.edges; halted = r.halted }
 
-  -- the state as superstep s begins: what the last record before it left, else the initial one
+  -- the state as superstep s begins: that in the last record before it, else the initial one
   abbrev pub state_at : ℕ → ℕ → Trace V M → Option (VertexState V)
   state_at id s trace = option_or (option_map (left_by id) (last_record id (take s trace.records)))
       (state_of id trace.initial)

@@ -59,11 +59,11 @@ pub(crate) fn cut_index<V: Drop, M: Drop>(
     ensures { IfOk result (λ first. IsIndex (take len supersteps.now) first) }
 {
     let mut first = ran.cheap_clone(alloc)?;
-    let mut left = supersteps.len();
-    while left > len {
-        left -= 1;
-        let none = none_given(alloc, &supersteps[left])?;
-        first = first.noted(alloc, checked_u32(left)?, none.as_slice())?;
+    let mut remaining = supersteps.len();
+    while remaining > len {
+        remaining -= 1;
+        let none = none_given(alloc, &supersteps[remaining])?;
+        first = first.noted(alloc, checked_u32(remaining)?, none.as_slice())?;
     }
     first.sealed(alloc)
 }

@@ -38,14 +38,14 @@ impl<'a, V> StateRef<'a, V> {
     }
 
     /// The state that a record leaves.
-    pub(crate) fn of_record<M>(id: VertexId, left: &RecordRef<'a, V, M>) -> StateRef<'a, V>
-        ensures { result ≡ left_by id left.now }
+    pub(crate) fn of_record<M>(id: VertexId, produced: &RecordRef<'a, V, M>) -> StateRef<'a, V>
+        ensures { result ≡ left_by id produced.now }
     {
         StateRef {
             id,
-            value: left.value(),
-            edges: left.edges(),
-            halted: left.halted(),
+            value: produced.value(),
+            edges: produced.edges(),
+            halted: produced.halted(),
         }
     }
 

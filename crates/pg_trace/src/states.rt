@@ -98,7 +98,7 @@ impl<'a, V: Drop, M: Drop> StateCursor<'a, V, M> {
         let supersteps = self.supersteps;
         let run = self.runs.last_before(id, superstep);
         match record_of(supersteps, id, run) {
-            Some(left) => Some(StateRef::of_record(id, &left)),
+            Some(produced) => Some(StateRef::of_record(id, &produced)),
             None => {
                 let state = self.initial.get(id)?;
                 Some(StateRef::of_state(state))
@@ -125,13 +125,13 @@ fn record_of<'a, V: Drop, M: Drop>(
 /// The state that a record leaves, or where there is none the one with which the vertex began.
 fn state_left<'a, V, M>(
     id: VertexId,
-    left: &Option<RecordRef<'a, V, M>>,
+    produced: &Option<RecordRef<'a, V, M>>,
     begun: Option<&'a VertexState<V>>,
 ) -> Option<StateRef<'a, V>>
-    ensures { result ≡ option_or (option_map (left_by id) (left.now)) (option_copied begun.entry) }
+    ensures { result ≡ option_or (option_map (left_by id) (produced.now)) (option_copied begun.entry) }
 {
-    match left {
-        Some(left) => Some(StateRef::of_record(id, left)),
+    match produced {
+        Some(produced) => Some(StateRef::of_record(id, produced)),
         None => Some(StateRef::of_state(begun?)),
     }
 }

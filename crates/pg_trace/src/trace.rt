@@ -22,7 +22,7 @@ use std::marker::Model;
 /// the records of the vertices that ran. A contract sees both as lists by rising id.
 ///
 /// No other state is kept: that of a vertex as a superstep begins is what its last record before it
-/// left. An index says of each vertex in which supersteps it ran. What `recorded` notes in it lies
+/// produced. An index says of each vertex in which supersteps it ran. What `recorded` notes in it lies
 /// outside the memory that copies share, and is put into that once, where the trace is sealed.
 pub struct Trace<V, M> {
     initial: Beginnings<V>,

@@ -151,13 +151,13 @@ fn last_before(logged: LogEntry, earlier: &[LogEntry], limit: u64) -> Option<Occ
         ≡ first_below limit (back earlier.now (length earlier.now) logged.before) }
 {
     let mut at = logged.before as usize;
-    let mut left = earlier.len();
-    while 0 < at && at <= left {
+    let mut remaining = earlier.len();
+    while 0 < at && at <= remaining {
         let entry = earlier[at - 1];
         if (entry.run.superstep as u64) < limit {
             return Some(entry.run);
         }
-        left = at - 1;
+        remaining = at - 1;
         at = entry.before as usize;
     }
     None

@@ -12,6 +12,7 @@ ghost use Rattle.pg_map.specs.Entries.{HasRisingIds, value_at};
 ghost use Rattle.pg_trace_index.specs.Chunks.{AreSound, IsAt, all_of, listed};
 
 use pg_graph::{Memory, VertexId};
+use pg_map::is_at_most;
 use std::alloc::Global;
 
 /// Values that lie side by side, by rising id: at least one. A chunk knows its first id, so a search among chunks reads
@@ -99,13 +100,6 @@ fn have_begun<X>(chunks: &[Chunk<X>], count: usize, id: VertexId) -> bool
         return true;
     }
     !is_at_most(chunks[count].first, id)
-}
-
-/// Whether an id is below another, or is it.
-fn is_at_most(id: VertexId, other: VertexId) -> bool
-    ensures { result ≡ nat_le id other }
-{
-    id <= other
 }
 
 /// The place of an id by its distance from the first id, if it stands there. It may say none where there are gaps.

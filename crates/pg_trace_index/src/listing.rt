@@ -127,11 +127,11 @@ fn add_back(runs: &mut Vec<Occurrence>, before: u32, earlier: &[LogEntry]) -> Re
         (steps_of runs.new.items ≡ steps_of runs.old.items ++ back earlier.now (length earlier.now) before) }
 {
     let mut at = before as usize;
-    let mut left = earlier.len();
-    while 0 < at && at <= left {
+    let mut remaining = earlier.len();
+    while 0 < at && at <= remaining {
         let entry = earlier[at - 1];
         runs.push(entry.run)?;
-        left = at - 1;
+        remaining = at - 1;
         at = entry.before as usize;
     }
     Ok(())

@@ -38,20 +38,20 @@ module _ {X : Type 0} (xs ys : List X) (part : Extent) where
 
 module _ {V M : Type 0} (sent more : List (ℕ × M)) (contributed extra : List (ℕ × ℤ)) where
   abbrev made : Executed V → List (ℕ × M) → List (ℕ × ℤ) → Record V M
-  made left a b = record { value = left.value; edges = left.edges; halted = left.halted; sent = a; contributed = b }
+  made produced a b = record { value = produced.value; edges = produced.edges; halted = produced.halted; sent = a; contributed = b }
 
   longer : (entries : List (ℕ × Option (Executed V))) → AreWithin sent contributed entries
       → changes_in (sent ++ more) (contributed ++ extra) entries ≡ changes_in sent contributed entries
   longer [] within = refl
   longer ((id, None) ∷ entries) within = ap (λ l. (id, None) ∷ l) (longer entries within.1)
-  longer ((id, Some left) ∷ entries) within =
+  longer ((id, Some produced) ∷ entries) within =
       ap₂ (λ r l. (id, Some r) ∷ l)
-      (ap₂ (made left) (part_stays sent more left.sent within.0.0) (part_stays contributed extra left.contributed within.0.1)) (longer entries within.1)
+      (ap₂ (made produced) (part_stays sent more produced.sent within.0.0) (part_stays contributed extra produced.contributed within.0.1)) (longer entries within.1)
 
-  within_one : (left : Option (Executed V)) → IsWithin sent contributed left → IsWithin (sent ++ more) (contributed ++ extra) left
+  within_one : (produced : Option (Executed V)) → IsWithin sent contributed produced → IsWithin (sent ++ more) (contributed ++ extra) produced
   within_one None within = tt
-  within_one (Some left) within =
-      (part_longer sent more left.sent within.0, part_longer contributed extra left.contributed within.1)
+  within_one (Some produced) within =
+      (part_longer sent more produced.sent within.0, part_longer contributed extra produced.contributed within.1)
 
   within_all : (entries : List (ℕ × Option (Executed V))) → AreWithin sent contributed entries → AreWithin (sent ++ more) (contributed ++ extra) entries
   within_all [] within = tt
@@ -67,24 +67,24 @@ module _ {V M : Type 0} (sent more : List (ℕ × M)) (contributed extra : List 
     within_grown same = subst (AreWithin sent' contributed') (sym same) grown
 
     -- and with what one more has left
-    module _ (id : ℕ) (left : Executed V) {entries' : List (ℕ × Option (Executed V))} (pushed : entries' ≡ entries ++ (id, Some left) ∷ [])
-        (sent_first : left.sent.first ≡ length sent) (sent_count : left.sent.count ≡ length more)
-        (contributed_first : left.contributed.first ≡ length contributed) (contributed_count : left.contributed.count ≡ length extra) where
-      is_one : IsWithin sent' contributed' (Some left)
-      is_one = subst₂ (λ a b. IsWithin a b (Some left)) (sym sends) (sym contributes)
-          (is_added sent more left.sent sent_first sent_count, is_added contributed extra left.contributed contributed_first contributed_count)
+    module _ (id : ℕ) (produced : Executed V) {entries' : List (ℕ × Option (Executed V))} (pushed : entries' ≡ entries ++ (id, Some produced) ∷ [])
+        (sent_first : produced.sent.first ≡ length sent) (sent_count : produced.sent.count ≡ length more)
+        (contributed_first : produced.contributed.first ≡ length contributed) (contributed_count : produced.contributed.count ≡ length extra) where
+      is_one : IsWithin sent' contributed' (Some produced)
+      is_one = subst₂ (λ a b. IsWithin a b (Some produced)) (sym sends) (sym contributes)
+          (is_added sent more produced.sent sent_first sent_count, is_added contributed extra produced.contributed contributed_first contributed_count)
 
       pub within_added : AreWithin sent' contributed' entries'
       within_added = all_pushed (λ e. IsWithin sent' contributed' e.1) entries grown pushed is_one
 
       pub one_added : {before : List (ℕ × Option (Record V M))} → changes_in sent contributed entries ≡ before
           → changes_in sent' contributed' entries'
-          ≡ before ++ (id, Some (record { value = left.value; edges = left.edges; halted = left.halted; sent = more; contributed = extra })) ∷ []
+          ≡ before ++ (id, Some (record { value = produced.value; edges = produced.edges; halted = produced.halted; sent = more; contributed = extra })) ∷ []
       one_added was =
-          ap (changes_in sent' contributed') pushed ∙ ap₂ (λ a b. changes_in a b (entries ++ (id, Some left) ∷ [])) sends contributes
-          ∙ map-append (λ e. (e.0, option_map (record_in (sent ++ more) (contributed ++ extra)) e.1)) entries ((id, Some left) ∷ [])
+          ap (changes_in sent' contributed') pushed ∙ ap₂ (λ a b. changes_in a b (entries ++ (id, Some produced) ∷ [])) sends contributes
+          ∙ map-append (λ e. (e.0, option_map (record_in (sent ++ more) (contributed ++ extra)) e.1)) entries ((id, Some produced) ∷ [])
           ∙ ap₂ (λ l r. l ++ (id, Some r) ∷ []) (longer entries within ∙ was)
-          (ap₂ (made left) (part_added sent more left.sent sent_first sent_count) (part_added contributed extra left.contributed contributed_first contributed_count))
+          (ap₂ (made produced) (part_added sent more produced.sent sent_first sent_count) (part_added contributed extra produced.contributed contributed_first contributed_count))
 
 module _ {V M : Type 0} (sent : List (ℕ × M)) (contributed : List (ℕ × ℤ)) where
   -- ---- the ids of changes are those of the entries
@@ -93,9 +93,9 @@ module _ {V M : Type 0} (sent : List (ℕ × M)) (contributed : List (ℕ × ℤ
   keys_in [] = refl
   keys_in (e ∷ entries) = ap (λ l. e.0 ∷ l) (keys_in entries)
 
-  stated_left : (left : Option (Executed V)) → is_some left ≡ is_some (option_map (record_in sent contributed) left)
+  stated_left : (produced : Option (Executed V)) → is_some produced ≡ is_some (option_map (record_in sent contributed) produced)
   stated_left None = refl
-  stated_left (Some left) = refl
+  stated_left (Some produced) = refl
 
   pub stated_in : (entries : List (ℕ × Option (Executed V))) → given_flags entries ≡ given_flags (changes_in sent contributed entries)
   stated_in [] = refl

@@ -34,13 +34,13 @@ module _ {V M : Type 0} (sent : List (ℕ × M)) (contributed : List (ℕ × ℤ
     pub given_flags : zip senders (take (length senders) sent) ≡ flat_map sent_in done
     pub within : length senders ≤ length sent
 
-  one_more : (id : ℕ) (left : Option (Executed V)) (before after : List ℕ) → IsWithin sent contributed left → length before ≤ length sent
-      → AddsSenders id left before after
-      → (zip after (take (length after) sent) ≡ zip before (take (length before) sent) ++ sent_in (id, left)) × (length after ≤ length sent)
+  one_more : (id : ℕ) (produced : Option (Executed V)) (before after : List ℕ) → IsWithin sent contributed produced → length before ≤ length sent
+      → AddsSenders id produced before after
+      → (zip after (take (length after) sent) ≡ zip before (take (length before) sent) ++ sent_in (id, produced)) × (length after ≤ length sent)
   one_more id None before after within fits is =
       (ap (λ l. zip l (take (length l) sent)) is ∙ sym (append-nil (zip before (take (length before) sent))), omega (arith, fits, ap length is))
-  one_more id (Some left) before after within fits (first, is) =
-      let n = left.sent.count in
+  one_more id (Some produced) before after within fits (first, is) =
+      let n = produced.sent.count in
       let rest = drop (length before) sent in
       let long : length after ≡ length before + n = ap length is ∙ length-append before (replicate n id) ∙ ap (λ k. length before + k) (length-replicate n id) in
       let all : length before + n ≤ length sent = omega (arith, first, within.0) in

@@ -15,14 +15,14 @@ module _ {X : Type 0} where
   IsPart part items = part.first + part.count ≤ length items
 
 module _ {V M : Type 0} (sent : List (ℕ × M)) (contributed : List (ℕ × ℤ)) where
-  -- the record of an execution that left this
+  -- the record of an execution that produced this
   abbrev pub record_in : Executed V → Record V M
-  record_in left = record {
-    value = left.value;
-    edges = left.edges;
-    halted = left.halted;
-    sent = part_of left.sent sent;
-    contributed = part_of left.contributed contributed;
+  record_in produced = record {
+    value = produced.value;
+    edges = produced.edges;
+    halted = produced.halted;
+    sent = part_of produced.sent sent;
+    contributed = part_of produced.contributed contributed;
   }
 
   abbrev pub changes_in : List (ℕ × Option (Executed V)) → List (ℕ × Option (Record V M))
@@ -31,7 +31,7 @@ module _ {V M : Type 0} (sent : List (ℕ × M)) (contributed : List (ℕ × ℤ
   -- its parts lie within the lists
   abbrev pub IsWithin : Option (Executed V) → Type 0
   IsWithin None = Unit {0}
-  IsWithin (Some left) = IsPart left.sent sent × IsPart left.contributed contributed
+  IsWithin (Some produced) = IsPart produced.sent sent × IsPart produced.contributed contributed
 
   abbrev pub AreWithin : List (ℕ × Option (Executed V)) → Type 0
   AreWithin entries = AllByRecursion (λ e. IsWithin e.1) entries
@@ -39,5 +39,5 @@ module _ {V M : Type 0} (sent : List (ℕ × M)) (contributed : List (ℕ × ℤ
 -- a sender more for each message of an execution, which are the next ones
 abbrev pub AddsSenders : {V : Type 0} → ℕ → Option (Executed V) → List ℕ → List ℕ → Type 0
 AddsSenders id None before after = after ≡ before
-AddsSenders id (Some left) before after =
-    (left.sent.first ≡ length before) × (after ≡ before ++ replicate left.sent.count id)
+AddsSenders id (Some produced) before after =
+    (produced.sent.first ≡ length before) × (after ≡ before ++ replicate produced.sent.count id)

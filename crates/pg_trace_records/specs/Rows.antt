@@ -28,8 +28,8 @@ given_at_a_place = refl
 who_is_given : given_flags two ≡ (3, true) ∷ (5, false) ∷ []
 who_is_given = refl
 
-abbrev left : ℕ → ℤ → Executed ℤ
-left first value = record {
+abbrev halted_with : ℕ → ℤ → Executed ℤ
+halted_with first value = record {
   value = value;
   edges = [];
   halted = true;
@@ -39,7 +39,7 @@ left first value = record {
 
 -- what two of them sent lies side by side
 side_by_side : changes_in ((7, pos 31) ∷ (7, pos 33) ∷ []) []
-    ((3, Some (left 0 (pos 31))) ∷ (5, None) ∷ (8, Some (left 1 (pos 33))) ∷ [])
+    ((3, Some (halted_with 0 (pos 31))) ∷ (5, None) ∷ (8, Some (halted_with 1 (pos 33))) ∷ [])
     ≡ (3, Some (gave (pos 31))) ∷ (5, None) ∷ (8, Some (gave (pos 33))) ∷ []
 side_by_side = refl
 

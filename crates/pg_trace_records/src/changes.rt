@@ -42,7 +42,7 @@ impl Extent {
     }
 }
 
-/// What an execution left, and which parts of the lists of its superstep it sent and contributed.
+/// What an execution produced, and which parts of the lists of its superstep it sent and contributed.
 #[derive(Drop)]
 pub struct Executed<V> {
     pub value: V,
@@ -52,9 +52,9 @@ pub struct Executed<V> {
     pub contributed: Extent,
 }
 
-/// What a superstep makes of the records of vertices: each of them has a new one, or none any more. What they left lies
-/// in one list, what they sent in another, and what they contributed in a third. A contract sees the list of (id,
-/// record).
+/// What a superstep makes of the records of vertices: each of them has a new one, or none any more. What they
+/// produced lies in one list, what they sent in another, and what they contributed in a third. A contract sees the list
+/// of (id, record).
 pub struct RecordChanges<V, M> {
     entries: Vec<(VertexId, Option<Executed<V>>)>,
     sent: Vec<(VertexId, M)>,
@@ -96,18 +96,18 @@ impl<V: Drop, M: Drop> RecordChanges<V, M> {
         })
     }
 
-    /// What these vertices left, or that they have no record any more, with all that was sent and contributed, in their
-    /// memory.
+    /// What these vertices produced, or that they have no record any more, with all that was sent and contributed, in
+    /// their memory.
     pub fn of(
-        left: Vec<(VertexId, Option<Executed<V>>)>,
+        produced: Vec<(VertexId, Option<Executed<V>>)>,
         sent: Vec<(VertexId, M)>,
         contributed: Vec<(Place, i64)>,
     ) -> RecordChanges<V, M>
-        requires { AreWithin sent.items contributed.items left.items }
-        ensures { result ≡ changes_in sent.items contributed.items left.items }
+        requires { AreWithin sent.items contributed.items produced.items }
+        ensures { result ≡ changes_in sent.items contributed.items produced.items }
     {
         RecordChanges {
-            entries: left,
+            entries: produced,
             sent,
             contributed,
         }
@@ -145,8 +145,8 @@ impl<V: Drop, M: Drop> RecordChanges<V, M> {
     {
         let mut senders = Vec::with_capacity(alloc, self.sent.len())?;
         for place in 0..self.entries.len() {
-            let (id, left) = &self.entries[place];
-            if !add_senders(&mut senders, *id, left)? {
+            let (id, produced) = &self.entries[place];
+            if !add_senders(&mut senders, *id, produced)? {
                 return Ok(None);
             }
         }
@@ -166,10 +166,10 @@ impl<V: Drop, M: Drop> RecordChanges<V, M> {
         requires { place < length self.now }
         ensures { (c : ℕ × Option (Record V M)) → result ≡ slice_index_or self.now place c }
     {
-        let (id, left) = &self.entries[place];
-        match left {
-            Some(left) => {
-                let given = record_of(self.sent.as_slice(), self.contributed.as_slice(), left);
+        let (id, produced) = &self.entries[place];
+        match produced {
+            Some(produced) => {
+                let given = record_of(self.sent.as_slice(), self.contributed.as_slice(), produced);
                 (*id, Some(given))
             }
             None => (*id, None),
@@ -214,14 +214,14 @@ impl<V: Drop, M: Drop> RecordChanges<V, M> {
             edges,
             halted,
         } = state;
-        let left = Executed {
+        let produced = Executed {
             value,
             edges,
             halted,
             sent,
             contributed,
         };
-        self.entries.push((id, Some(left)))?;
+        self.entries.push((id, Some(produced)))?;
         Ok(())
     }
 
@@ -239,8 +239,8 @@ impl<V: Drop, M: Drop> RecordChanges<V, M> {
     {
         let mut places = Vec::with_capacity(alloc, self.entries.len())?;
         for place in 0..self.entries.len() {
-            let (id, left) = &self.entries[place];
-            places.push((*id, place_if(left.is_some(), place)))?;
+            let (id, produced) = &self.entries[place];
+            places.push((*id, place_if(produced.is_some(), place)))?;
         }
         Ok(places)
     }
@@ -251,16 +251,16 @@ impl<V: Drop, M: Drop> RecordChanges<V, M> {
 fn add_senders<V>(
     senders: &mut Vec<VertexId>,
     id: VertexId,
-    left: &Option<Executed<V>>,
+    produced: &Option<Executed<V>>,
 ) -> Result<bool, Memory>
-    ensures { IfOk result (λ added. IsTrue added → AddsSenders id left.now senders.old.items senders.new.items) }
+    ensures { IfOk result (λ added. IsTrue added → AddsSenders id produced.now senders.old.items senders.new.items) }
 {
-    match left {
-        Some(left) => {
-            if left.sent.first as usize != senders.len() {
+    match produced {
+        Some(produced) => {
+            if produced.sent.first as usize != senders.len() {
                 return Ok(false);
             }
-            senders.resize(senders.len() + left.sent.count as usize, id)?;
+            senders.resize(senders.len() + produced.sent.count as usize, id)?;
             Ok(true)
         }
         None => Ok(true),
@@ -277,23 +277,23 @@ fn place_if(is_asked: bool, place: usize) -> Option<u32>
     None
 }
 
-/// The record of an execution that left this, by all that was sent and contributed. Costs O(1).
+/// The record of an execution that produced this, by all that was sent and contributed. Costs O(1).
 #[inline(always)]
 pub fn record_of<'a, V, M>(
     sent: &'a [(VertexId, M)],
     contributed: &'a [(Place, i64)],
-    left: &'a Executed<V>,
+    produced: &'a Executed<V>,
 ) -> RecordRef<'a, V, M>
-    requires sent { IsPart left.now.sent sent.now }
-    requires contributed { IsPart left.now.contributed contributed.now }
-    ensures { result ≡ record_in sent.now contributed.now left.now }
+    requires sent { IsPart produced.now.sent sent.now }
+    requires contributed { IsPart produced.now.contributed contributed.now }
+    ensures { result ≡ record_in sent.now contributed.now produced.now }
 {
     RecordRef {
-        value: &left.value,
-        edges: &left.edges,
-        halted: left.halted,
-        sent: part_of(sent, left.sent),
-        contributed: part_of(contributed, left.contributed),
+        value: &produced.value,
+        edges: &produced.edges,
+        halted: produced.halted,
+        sent: part_of(sent, produced.sent),
+        contributed: part_of(contributed, produced.contributed),
     }
 }
 

@@ -30,14 +30,14 @@ impl<'a, V, M> Model for RecordRef<'a, V, M> {
 }
 
 impl<'a, V, M> RecordRef<'a, V, M> {
-    /// The value that it left.
+    /// The value that it produced.
     pub fn value(&self) -> &'a V
         ensures { result.now ≡ self.now.value }
     {
         self.value
     }
 
-    /// The out-edges that it left.
+    /// The out-edges that it produced.
     pub fn edges(&self) -> &'a Edges
         ensures { result.now ≡ self.now.edges }
     {

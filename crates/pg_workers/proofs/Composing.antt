@@ -53,10 +53,10 @@ module _ {P C A V M : Type 0} (own : Meaning P C A V M) where
   pub running_rest : (fated : Fated) (first : Progress P C A V M) (shelf : ShelfState) (a : Coordination P C A V M) (rest : Progress P C A V M)
       → IsRest own a.core rest → IsRunning own fated first shelf a
       → IsRunning own fated first shelf (record { core = rest; calls = a.calls; losses = a.losses })
-  running_rest fated first shelf a rest left runs =
-      subst (λ (c : Progress P C A V M). IsRunning own fated first shelf (record { core = c; calls = a.calls; losses = a.losses })) (sym left.core_is)
+  running_rest fated first shelf a rest remaining runs =
+      subst (λ (c : Progress P C A V M). IsRunning own fated first shelf (record { core = c; calls = a.calls; losses = a.losses })) (sym remaining.core_is)
       (running_without fated first shelf a rest.parts
-      (λ kept right. subst (λ (c : Progress P C A V M). IsRight (job_of_meaning own a.core) kept c) left.core_is (left.right kept right)) runs)
+      (λ kept right. subst (λ (c : Progress P C A V M). IsRight (job_of_meaning own a.core) kept c) remaining.core_is (remaining.right kept right)) runs)
 
   steps_without : (kept : Option Rows) (core : Progress P C A V M) (parts : List (Option (PartState V M))) (steps : List (Option (Done V M)))
       → AreStepsRight own kept core steps → AreStepsRight own kept (record core { parts = parts }) steps
@@ -64,11 +64,11 @@ module _ {P C A V M : Type 0} (own : Meaning P C A V M) where
 
   pub steps_rest : (kept : Option Rows) (core rest : Progress P C A V M) (steps : List (Option (Done V M))) → IsRest own core rest
       → AreStepsRight own kept core steps → AreStepsRight own kept rest steps
-  steps_rest kept core rest steps left are =
-      subst (λ (c : Progress P C A V M). AreStepsRight own kept c steps) (sym left.core_is) (steps_without kept core rest.parts steps are)
+  steps_rest kept core rest steps remaining are =
+      subst (λ (c : Progress P C A V M). AreStepsRight own kept c steps) (sym remaining.core_is) (steps_without kept core rest.parts steps are)
 
   pub next_rest : (core rest : Progress P C A V M) (steps : List (Option (Done V M))) → IsRest own core rest → AreNext core steps → AreNext rest steps
-  next_rest core rest steps left are = subst (λ (c : Progress P C A V M). AreNext c steps) (sym left.core_is) are
+  next_rest core rest steps remaining are = subst (λ (c : Progress P C A V M). AreNext c steps) (sym remaining.core_is) are
 
   -- ---- a round
 

@@ -74,10 +74,10 @@ module _ {P C A V M : Type 0} (own : Meaning P C A V M) (fated : Fated) (first :
       ∙ fell_all n first.limits.workers now.core.history now.core.state reaches
       (λ v within. dead v (omega (arith, within, ap (λ (l : Limits). l.workers) runs.same.limits_are))) w
 
-  module _ (ended : now.core.state.ended ≡ true) (run : Run V) (left : Traces V M) (counts : Counts)
+  module _ (ended : now.core.state.ended ≡ true) (run : Run V) (retained : Traces V M) (counts : Counts)
       (steps_are : counts.steps ≡ map (λ p. steps_of p now.core.history) (range_with_len 0 now.core.limits.partitions))
       (calls_are : counts.calls ≡ now.calls) (losses_same : counts.losses ≡ now.losses)
-      (finishes : (kept : Option Rows) → IsRight (job_of_meaning own now.core) kept now.core → IsFinished (job_of_meaning own now.core) now.core run left) where
+      (finishes : (kept : Option Rows) → IsRight (job_of_meaning own now.core) kept now.core → IsFinished (job_of_meaning own now.core) now.core run retained) where
     tells : IsHistoryOf n first.limits.workers now.core.history counts
     tells = record {
       reached = now.core.state;
@@ -91,17 +91,17 @@ module _ {P C A V M : Type 0} (own : Meaning P C A V M) (fated : Fated) (first :
       there : IsRight (job_of_meaning own first) kept now.core
       there = runs.right kept right trusts
 
-      done : IsFinished (job_of_meaning own first) now.core run left
-      done = subst (λ (j : Job V M). IsRight j kept now.core → IsFinished j now.core run left) (job_stays own runs.same) (finishes kept) there
+      done : IsFinished (job_of_meaning own first) now.core run retained
+      done = subst (λ (j : Job V M). IsRight j kept now.core → IsFinished j now.core run retained) (job_stays own runs.same) (finishes kept) there
 
       whole_run : now.core.state.current + 1 ≡ run_length (job_of_meaning own first) first.graph
       whole_run = there.at_end ended ∙ ap (run_length (job_of_meaning own first)) runs.same.graph_is
 
-      answered : IsAnswered own kept first now.core.history run left counts
+      answered : IsAnswered own kept first now.core.history run retained counts
       unfolding tells
       answered = record {
         answers = done.answers ∙ ap (answer (job_of_meaning own first)) runs.same.graph_is;
-        leaves = subst₂ (λ (g : Rows) (l : Limits). IsRetainedBy (job_of_meaning own first) g l.partitions left) runs.same.graph_is runs.same.limits_are done.leaves;
+        leaves = subst₂ (λ (g : Rows) (l : Limits). IsRetainedBy (job_of_meaning own first) g l.partitions retained) runs.same.graph_is runs.same.limits_are done.leaves;
         counted = record {
           tells = tells;
           whole = whole_run;
@@ -114,8 +114,8 @@ module _ {P C A V M : Type 0} (own : Meaning P C A V M) (fated : Fated) (first :
           l_of : now.core.limits ≡ first.limits
           l_of = runs.same.limits_are
 
-    pub is_driven : length now.losses ≤ first.limits.max_losses → length left.retained_parts ≡ now.core.limits.partitions
-        → length run.aggregates ≡ length (own.master now.core.master).registrations → IsDriven own fated shelf.is_honest first run left counts
+    pub is_driven : length now.losses ≤ first.limits.max_losses → length retained.retained_parts ≡ now.core.limits.partitions
+        → length run.aggregates ≡ length (own.master now.core.master).registrations → IsDriven own fated shelf.is_honest first run retained counts
     is_driven few each places = record {
       history = now.core.history;
       tells = tells;
@@ -139,7 +139,7 @@ module _ {P C A V M : Type 0} (own : Meaning P C A V M) (fated : Fated) (first :
           → ((kept : Option Rows) → IsRight (job_of_meaning own now.core) kept now.core → now.core.state.ended ≡ true → losses_of now.core ≡ []
           → calls_in own.value_eq own.message_eq (job_of_meaning own now.core) kept now.core
           ≡ needed_count own.value_eq own.message_eq (job_of_meaning own now.core) kept now.core.graph)
-          → IsUnlost own kept first run left counts
+          → IsUnlost own kept first run retained counts
       is_unlost kept right steps unlost =
           let trusts : Trusts shelf.is_honest now.core.history = unlost_trusts shelf.is_honest n first.limits.workers now.core.history now.core.state reaches
           nobody in

@@ -380,10 +380,10 @@ module _ {P C A V M : Type 0} (own : Meaning P C A V M) (fated : Fated) (superst
       → AreReturned own fated superstep attempt before outcomes.items)
   all_returned result are =
       IfOk-weaker result _ _ (λ outcomes each before below assigned.
-      let left = assigned.taken in
-      returned own fated superstep attempt before round (borrows_before own before now superstep attempt round left borrows) below now
+      let remaining = assigned.taken in
+      returned own fated superstep attempt before round (borrows_before own before now superstep attempt round remaining borrows) below now
       assignments outcomes.items assigned
       (subst₂ (λ (p : P) (c : C). AreOutcomes own.value_eq own.message_eq (own.program p) (own.combining c) fated round assignments
       outcomes.items)
-      (program_is ∙ ap (λ (core : Progress P C A V M). core.program) left.core_is)
-      (combiner_is ∙ ap (λ (core : Progress P C A V M). core.combiner) left.core_is) each)) are
+      (program_is ∙ ap (λ (core : Progress P C A V M). core.program) remaining.core_is)
+      (combiner_is ∙ ap (λ (core : Progress P C A V M). core.combiner) remaining.core_is) each)) are

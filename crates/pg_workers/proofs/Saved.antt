@@ -113,7 +113,7 @@ keys_apart p q small_p small_q apart same = apart (decimal_injective p q small_p
 
 module _ {P C A V M : Type 0} (own : Meaning P C A V M) (job : Job V M) (rows : Rows) (n run : ℕ) where
   abbrev Saved : ℕ → ℕ → Option (List ℕ) → Type 0
-  Saved p r left = IsSaved own job rows n run p r left
+  Saved p r remaining = IsSaved own job rows n run p r remaining
 
   saved_fades : (p r : ℕ) (once twice : Option (List ℕ)) → Fades once twice → Saved p r once → Saved p r twice
   saved_fades p r once twice fades is = record {
@@ -298,7 +298,7 @@ module _ {P C A V M : Type 0} (own : Meaning P C A V M) (fated : Fated) (first :
       runs.saved honest kept right p r (omega (arith, mine, ap (λ (l : Limits). l.partitions) runs.same.limits_are)) at in
       by (at_key shelf (key_of p)) refl was loaded same
     where
-      by : (left : Option (List ℕ)) → at_key shelf (key_of p) ≡ left
+      by : (remaining : Option (List ℕ)) → at_key shelf (key_of p) ≡ remaining
           → IsSaved own (job_of_meaning own first) first.graph first.limits.partitions first.run p r (at_key shelf (key_of p))
           → IsLoaded own.is_value own.value own.is_message own.message asked (at_key shelf (key_of p)) (Found part) → job_of_meaning own first ≡ job_of_meaning own c.core
           → HoldsShare (job_of_meaning own first) None c.core.graph c.core.limits.partitions p part.part_run.place part

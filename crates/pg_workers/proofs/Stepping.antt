@@ -205,13 +205,13 @@ module _ {P C A V M : Type 0} (own : Meaning P C A V M) where
         → TakesInOn steps old now rest → slice_index_or rest p None ≡ Some done
         → (is_allowed now.core.state (Step p) ≡ true) × IsNext now.core.limits.partitions now.core.state p done.part
     next_still now rest p done next was at =
-        let left = was.remain p done at in
-        let is : IsNext old.core.limits.partitions old.core.state p done.part = (next p done left.0).1.1 in (
-          left.1.0,
+        let remaining = was.remain p done at in
+        let is : IsNext old.core.limits.partitions old.core.state p done.part = (next p done remaining.0).1.1 in (
+          remaining.1.0,
           record {
             partition_is = is.partition_is;
             partitions_are = is.partitions_are ∙ ap (λ (l : Limits). l.partitions) (sym was.same.limits_are);
-            place_is = λ r there. is.place_is r (sym left.1.1 ∙ there);
+            place_is = λ r there. is.place_is r (sym remaining.1.1 ∙ there);
           },
         )
 
@@ -223,8 +223,8 @@ module _ {P C A V M : Type 0} (own : Meaning P C A V M) where
         → IsRunning own fated first shelf new)
         → TakesInOn steps old new (set rest p None)
     takes_in_more now new rest p done was at happens losses keeps =
-        let left = was.remain p done at in
-        let allowed : is_allowed now.core.state (Step p) ≡ true = left.1.0 in
+        let remaining = was.remain p done at in
+        let allowed : is_allowed now.core.state (Step p) ≡ true = remaining.1.0 in
         let state : new.core.state ≡ after now.core.state (Step p) = happens.state_is in
         record {
           same = same_then was.same happens.same;
@@ -243,7 +243,7 @@ module _ {P C A V M : Type 0} (own : Meaning P C A V M) where
             places = λ q none.
                 ap (place_at q) state
                 ∙ (place_after_other now.core.state p q
-                (λ same. let none_there : None ≡ Some done = sym none ∙ (ap (λ (u : ℕ). slice_index_or steps u None) same ∙ left.0) in
+                (λ same. let none_there : None ≡ Some done = sym none ∙ (ap (λ (u : ℕ). slice_index_or steps u None) same ∙ remaining.0) in
                 true≢false (sym (ap is_some none_there)))
                 ∙ was.recorded.places q none);
             none_before = λ s none. subst (NoneBefore s) (sym state) (none_before_step s p now.core.state allowed (was.recorded.none_before s none));
@@ -253,8 +253,8 @@ module _ {P C A V M : Type 0} (own : Meaning P C A V M) where
               let gone = was.goes fated first shelf runs right in
               let runs_now : IsRunning own fated first shelf now = gone.0 in (
                 keeps fated first shelf runs_now (λ kept first_right trusts.
-                    step_right_still kept old.core now.core p done was.same left.1.1 (gone.1 p)
-                    (right kept first_right (was.trusts shelf.is_honest trusts) p done left.0)),
+                    step_right_still kept old.core now.core p done was.same remaining.1.1 (gone.1 p)
+                    (right kept first_right (was.trusts shelf.is_honest trusts) p done remaining.0)),
                 λ q. ap (λ (l : Limits). was_lost q (first_state l.partitions l.workers) new.core.history) happens.same.limits_are
                     ∙ (ap (was_lost q (first_state now.core.limits.partitions now.core.limits.workers)) happens.history_is
                     ∙ (was_lost-stays q (first_state now.core.limits.partitions now.core.limits.workers) now.core.state now.core.history

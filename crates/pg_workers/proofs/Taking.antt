@@ -34,8 +34,8 @@ module _ {P C A V M : Type 0} (own : Meaning P C A V M) where
       (kept : Option Rows) → IsRight (job_of_meaning own core) kept core → IsRight (job_of_meaning own core) kept (record core { parts = parts })
 
   stays_right : (before rest : Progress P C A V M) → IsRest own before rest → StaysRight before rest.parts
-  stays_right before rest left kept right =
-      subst (λ (c : Progress P C A V M). IsRight (job_of_meaning own before) kept c) left.core_is (left.right kept right)
+  stays_right before rest remaining kept right =
+      subst (λ (c : Progress P C A V M). IsRight (job_of_meaning own before) kept c) remaining.core_is (remaining.right kept right)
 
   -- a part that was taken from what is left was so from the whole
   taken_whole : (before : Progress P C A V M) (parts : List (Option (PartState V M))) (superstep worker : ℕ) (part : PartState V M)
@@ -54,9 +54,9 @@ module _ {P C A V M : Type 0} (own : Meaning P C A V M) where
 
   pub taken_before : (before rest : Progress P C A V M) (superstep worker : ℕ) (part : PartState V M) → IsRest own before rest
       → IsTaken own rest superstep worker part → IsTaken own before superstep worker part
-  taken_before before rest superstep worker part left is =
-      taken_whole before rest.parts superstep worker part (stays_right before rest left)
-      (subst (λ (c : Progress P C A V M). IsTaken own c superstep worker part) left.core_is is)
+  taken_before before rest superstep worker part remaining is =
+      taken_whole before rest.parts superstep worker part (stays_right before rest remaining)
+      (subst (λ (c : Progress P C A V M). IsTaken own c superstep worker part) remaining.core_is is)
 
   -- ---- one worker's parts
 
@@ -74,7 +74,7 @@ module _ {P C A V M : Type 0} (own : Meaning P C A V M) where
   takes_more first core now p superstep worker part parts was within host place ready is reached small at borrows =
       let mine : part.part_run.partition ≡ p = at.partition_is in
       let there : part.part_run.place ≡ superstep = same_Some part.part_run.place superstep (sym at.place_is ∙ place) in
-      let left : IsRest own core now = record {
+      let remaining : IsRest own core now = record {
         core_is = is ∙ ap (λ l. record core { parts = l }) (sym (ap (λ (c : Progress P C A V M). c.parts) is));
         right = λ kept right. (borrows kept right).0;
       } in
@@ -89,7 +89,7 @@ module _ {P C A V M : Type 0} (own : Meaning P C A V M) where
             subst (λ (q : ℕ). HasStepInput (job_of_meaning own core) kept core q part.part_run.place part) (sym mine) (borrows kept right).1;
       } in
       record {
-        taken = rest_then first core now was.taken left;
+        taken = rest_then first core now was.taken remaining;
         each = All-push (IsTaken own first superstep worker) parts part was.each (taken_before first core superstep worker part was.taken one);
       }
 
@@ -110,8 +110,8 @@ module _ {P C A V M : Type 0} (own : Meaning P C A V M) where
 
   pub assigned_none : (first core now : Progress P C A V M) (superstep k : ℕ) (assignments : List (Assignment V M))
       → AreAssigned own first superstep k core assignments → IsRest own core now → AreAssigned own first superstep (k + 1) now assignments
-  assigned_none first core now superstep k assignments was left = record {
-    taken = rest_then first core now was.taken left;
+  assigned_none first core now superstep k assignments was remaining = record {
+    taken = rest_then first core now was.taken remaining;
     rise = was.rise;
     each = was.each;
     workers = below_more k assignments was.workers;
@@ -148,6 +148,6 @@ module _ {P C A V M : Type 0} (own : Meaning P C A V M) where
 
   pub borrows_before : (before rest : Progress P C A V M) (superstep attempt : ℕ) (round : RoundOf M) → IsRest own before rest
       → Borrows own rest superstep attempt round → Borrows own before superstep attempt round
-  borrows_before before rest superstep attempt round left borrows =
-      borrows_whole before rest.parts superstep attempt round (stays_right before rest left)
-      (subst (λ (c : Progress P C A V M). Borrows own c superstep attempt round) left.core_is borrows)
+  borrows_before before rest superstep attempt round remaining borrows =
+      borrows_whole before rest.parts superstep attempt round (stays_right before rest remaining)
+      (subst (λ (c : Progress P C A V M). Borrows own c superstep attempt round) remaining.core_is borrows)

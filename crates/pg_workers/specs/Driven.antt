@@ -35,13 +35,13 @@ pub record AreCountsOf {V M : Type 0} (value_eq : V → V → Bool) (message_eq 
       (counts_in (needs_of value_eq message_eq job rows n kept) (λ p. false) (first_state n workers) history)
 
 module _ {P C A V M : Type 0} (own : Meaning P C A V M) where
-  -- the answer, what is left for the next run and the counts are those of the run from scratch on the graph of a core,
-  -- against the kept run, if any
+  -- the answer, what is retained for the next run and the counts are those of the run from scratch on the graph of a
+  -- core, against the kept run, if any
   pub record IsAnswered (kept : Option Rows) (core : Progress P C A V M) (history : List Event) (run : Run V)
-      (left : Traces V M)
+      (retained : Traces V M)
       (counts : Counts) : Type 0 where
     pub answers : run ≡ answer (job_of_meaning own core) core.graph
-    pub leaves : IsRetainedBy (job_of_meaning own core) core.graph core.limits.partitions left
+    pub leaves : IsRetainedBy (job_of_meaning own core) core.graph core.limits.partitions retained
     pub counted : AreCountsOf own.value_eq own.message_eq
         (job_of_meaning own core) kept core.graph core.limits.partitions core.limits.workers history counts
 
@@ -49,23 +49,23 @@ module _ {P C A V M : Type 0} (own : Meaning P C A V M) where
   -- may, by the fate only those that it has fall; each partition leaves something; there is an aggregate for each of
   -- the master's registrations; and where the core was right it is answered, if the shelf is honest or nothing that it
   -- gave was used
-  pub record IsDriven (fated : Fated) (honest : Bool) (core : Progress P C A V M) (run : Run V) (left : Traces V M)
+  pub record IsDriven (fated : Fated) (honest : Bool) (core : Progress P C A V M) (run : Run V) (retained : Traces V M)
       (counts : Counts) : Type 0 where
     pub history : List Event
     pub tells : IsHistoryOf core.limits.partitions core.limits.workers history counts
     pub few : length counts.losses ≤ core.limits.max_losses
     pub fated_are : AreFated fated 0 counts.losses
-    pub each : length left.retained_parts ≡ core.limits.partitions
+    pub each : length retained.retained_parts ≡ core.limits.partitions
     pub places : length run.aggregates ≡ length (own.master core.master).registrations
     pub right : (kept : Option Rows) → IsRight (job_of_meaning own core) kept core → Trusts honest history
-        → IsAnswered kept core history run left counts
+        → IsAnswered kept core history run retained counts
 
-  -- no worker fell: the answer and what is left are those of the run from scratch whatever the shelf is, just the
+  -- no worker fell: the answer and what is retained are those of the run from scratch whatever the shelf is, just the
   -- executions that differ from the kept run's, if any, were called, and each partition has made each superstep once
-  pub record IsUnlost (kept : Option Rows) (core : Progress P C A V M) (run : Run V) (left : Traces V M)
+  pub record IsUnlost (kept : Option Rows) (core : Progress P C A V M) (run : Run V) (retained : Traces V M)
       (counts : Counts) : Type 0 where
     pub answers : run ≡ answer (job_of_meaning own core) core.graph
-    pub leaves : IsRetainedBy (job_of_meaning own core) core.graph core.limits.partitions left
+    pub leaves : IsRetainedBy (job_of_meaning own core) core.graph core.limits.partitions retained
     pub calls_are : counts.calls ≡ capped
         (needed_count own.value_eq own.message_eq (job_of_meaning own core) kept core.graph)
     pub steps_are : counts.steps ≡ map (λ p. run_length (job_of_meaning own core) core.graph)

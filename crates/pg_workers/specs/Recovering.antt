@@ -39,7 +39,7 @@ IsFoundRight own first shelf core p found =
     → Trusts shelf.is_honest (core.history ++ Restore p (place_found found) ∷ [])
     → IsShareFound (job_of_meaning own first) core p found
 
--- losses are recorded one after another in a run that has gone on, and these are left, of a round before which so many
+-- losses are recorded one after another in a run that has gone on, and these remain, of a round before which so many
 -- were
 pub record LosesOn {P C A V M : Type 0} (own : Meaning P C A V M) (fated : Fated) (first : Progress P C A V M)
     (shelf : ShelfState)

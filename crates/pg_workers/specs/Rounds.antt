@@ -53,7 +53,7 @@ module _ {P C A V M : Type 0} (own : Meaning P C A V M) (core : Progress P C A V
     pub right : (kept : Option Rows) → IsRight (job_of_meaning own core) kept core
         → IsRight (job_of_meaning own core) kept rest
 
-  -- the parts of a worker were taken, and this is what is left
+  -- the parts of a worker were taken, and this is what remains
   pub record TakesParts (rest : Progress P C A V M) (superstep worker : ℕ) (parts : List (PartState V M)) : Type 0 where
     pub taken : IsRest rest
     pub each : All (IsTaken superstep worker) parts

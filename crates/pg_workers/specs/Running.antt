@@ -45,17 +45,17 @@ pub record Coordination (P C A V M : Type 0) : Type 0 where
 
 module _ {P C A V M : Type 0} (own : Meaning P C A V M) where
   -- partition p of n was saved at place r, in a run of this number: a part that held its share there, whose bytes have
-  -- faded to what is left of them
-  pub record IsSaved (job : Job V M) (rows : Rows) (n run p r : ℕ) (left : Option (List ℕ)) : Type 0 where
+  -- faded to what remains of them
+  pub record IsSaved (job : Job V M) (rows : Rows) (n run p r : ℕ) (remaining : Option (List ℕ)) : Type 0 where
     pub part : PartState V M
     pub kept : Option Rows
     pub within : r ≤ run_length job rows
     pub holds : HoldsShare job kept rows n p r part
     pub codable : AreCodable own.is_value own.is_message (own_records part)
     pub fits : length (part_coding own.value own.message run part) < 2 ^ 64
-    pub faded : Fades (Some (part_coding own.value own.message run part)) left
+    pub faded : Fades (Some (part_coding own.value own.message run part)) remaining
 
-  -- the shelf has what is left of each partition that was saved
+  -- the shelf has what remains of each partition that was saved
   abbrev pub AreSaved : Job V M → Rows → ℕ → ℕ → State → ShelfState → Type 0
   AreSaved job rows n run state shelf =
       (p r : ℕ) → p < n → saved_at p state ≡ Some r → IsSaved job rows n run p r (at_key shelf (key_of p))
@@ -63,7 +63,7 @@ module _ {P C A V M : Type 0} (own : Meaning P C A V M) where
   module _ (fated : Fated) where
     -- a run has gone on from its first state, by events that the status machine allows: the losses and the calls so far
     -- are those of its history; it is right where it was so at first, if the shelf may be trusted; and then an honest
-    -- shelf has what is left of each partition that was saved
+    -- shelf has what remains of each partition that was saved
     pub record IsRunning (first : Progress P C A V M) (shelf : ShelfState) (now : Coordination P C A V M) : Type 0 where
       pub same : IsSameRun first now.core
       pub leads : Reaches (first_state now.core.limits.partitions now.core.limits.workers) now.core.history

@@ -17,7 +17,7 @@ use std::alloc::Global;
 /// As many vertices are looked at in about the time that it takes to start the threads of a round.
 const LITTLE: usize = 64;
 
-/// Takes the parts that are ready at a superstep, by rising worker; a worker that has none is left out.
+/// Takes the parts that are ready at a superstep, by rising worker; a worker that has none is omitted.
 pub(crate) fn assign<P: Computation, C: MessageCombiner<P::Message>, M: MasterCompute>(
     alloc: Global,
     core: &mut Core<'_, P, C, M>,

@@ -17,7 +17,7 @@ pub enum RefreshFault {
     #[error("too many workers fell")]
     TooManyLosses(Vec<Loss>),
     /// 3: all workers fell.
-    #[error("no worker is left")]
+    #[error("no worker is remaining")]
     NoWorkers(Vec<Loss>),
     /// 4: the shelf's device failed.
     #[error("the shelf's device failed")]

@@ -26,7 +26,7 @@ use std::sync::Wait;
 use std::thread::Threads;
 
 /// Drives a run to its end by workers, in rounds: each worker steps its partitions that are ready, all workers at the
-/// same time. A worker that falls stays away; its partitions go to the workers that are left, partition p to the one at
+/// same time. A worker that falls stays away; its partitions go to the workers that remain, partition p to the one at
 /// position p modulo their number, and go on from what was saved of them, or else from superstep 0. Where the run's
 /// limits say so, each partition is saved after every so many supersteps.
 ///

@@ -28,7 +28,7 @@ impl<'a, P: Computation, C: MessageCombiner<P::Message>, M: MasterCompute> Coord
     M,
 > {
     /// Records the losses of a round, and has the partitions that are lost go on elsewhere. Refused where more workers
-    /// fell than may, and else where none is left.
+    /// fell than may, and else where none remains.
     pub(crate) fn recover<S: Shelf>(
         &mut self,
         alloc: Global,

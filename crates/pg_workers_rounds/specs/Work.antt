@@ -17,7 +17,8 @@ AreAt superstep parts = All (λ part. (part.part_run.place ≡ superstep) × (pa
 module _ {V M : Type 0} (value_eq : V → V → Bool) (message_eq : M → M → Bool) (program : Program V M)
     (combining : Option (Combining M)) where
   -- a part was stepped once: it is one superstep further, and where it held its share of a run from which the
-  -- round borrows what it needs, it has made that step, sent what the step sends, and the calls are all that the step needed
+  -- round borrows what it needs, it has made that step, sent what the step sends, and the calls are all that the step
+  -- needed
   pub record IsDone (round : RoundOf M) (part : PartState V M) (done : Done V M) : Type 0 where
     pub advanced : IsAdvanced part.part_run done.part.part_run
     pub stepped : (job : Job V M) (kept : Option Rows) (rows : Rows) (n p r : ℕ)

@@ -60,10 +60,10 @@ query_some own Reported published (Some report) = some_later (json_text report) 
 -- ---- one line that answers a command
 
 pub line_answered : (line : List ℕ) (command : Result Command LineFault) (here : Place) (old : ReadyState) (new : ServiceWithSession) (reply : Reply) (number : ℕ)
-    (left : Option (List (List ℕ))) (before now : Option (List ℕ))
-    → command_of line ≡ command → RepliesTo command here old reply number new left → Appends before now (line_of_reply reply)
-    → AnswersLine line here old new number left before now
-line_answered line command here old new reply number left before now asks r wrote = record {
+    (unread : Option (List (List ℕ))) (before now : Option (List ℕ))
+    → command_of line ≡ command → RepliesTo command here old reply number new unread → Appends before now (line_of_reply reply)
+    → AnswersLine line here old new number unread before now
+line_answered line command here old new reply number unread before now asks r wrote = record {
   answer = answered reply r.next;
   answers = subst (λ c. Answers old.job c here (answered reply r.next)) (sym asks) r.answers;
   service_is = r.service_is;
@@ -75,26 +75,26 @@ line_answered line command here old new reply number left before now asks r wrot
 
 -- the line can't be written
 pub line_unwritten : (fault : ServeFault) (line : List ℕ) (command : Result Command LineFault) (here : Place) (old : ReadyState) (new : ServiceWithSession)
-    (reply : Reply) (number : ℕ) (left : Option (List (List ℕ))) (before now : Option (List ℕ))
-    → command_of line ≡ command → RepliesTo command here old reply number new left → fault ≡ Write → FailsLine fault line here old new.service before now
-line_unwritten fault line command here old new reply number left before now asks r failed =
+    (reply : Reply) (number : ℕ) (unread : Option (List (List ℕ))) (before now : Option (List ℕ))
+    → command_of line ≡ command → RepliesTo command here old reply number new unread → fault ≡ Write → FailsLine fault line here old new.service before now
+line_unwritten fault line command here old new reply number unread before now asks r failed =
     inr (failed, answered reply r.next, subst (λ c. Answers old.job c here (answered reply r.next)) (sym asks) r.answers, r.service_is, line_some reply)
 
 -- a line with a fault changes nothing
-pub fault_replies : (fault : LineFault) (here : Place) (held : ServiceWithSession) (left : Option (List (List ℕ))) → Keeps held here.state → left ≡ Some here.lines
-    → RepliesTo (Err fault) here held.service (Fault fault here.number) here.number held left
+pub fault_replies : (fault : LineFault) (here : Place) (held : ServiceWithSession) (unread : Option (List (List ℕ))) → Keeps held here.state → unread ≡ Some here.lines
+    → RepliesTo (Err fault) here held.service (Fault fault here.number) here.number held unread
 unfolding answer_to
-fault_replies fault here held left keeps left_is =
+fault_replies fault here held unread keeps left_is =
     record { next = here; answers = inl refl; service_is = keeps.service_is; session_state_are = keeps.session_state_are; number_is = refl; left_is = left_is }
 
 -- ---- lines with another answer
 
 -- a command with this answer was carried out, and the answer is written
 pub rest_answered : (line : List ℕ) (command : Result Command LineFault) (here : Place) (old : ReadyState) (new : ServiceWithSession) (answer : Answer)
-    (left : Option (List (List ℕ))) (before now : Option (List ℕ))
+    (unread : Option (List (List ℕ))) (before now : Option (List ℕ))
     → command_of line ≡ command → answer_to old.job command here ≡ answer → new.service ≡ after old answer.next.state → AreSessionState new.session_state answer.next.state
-    → left ≡ Some answer.next.lines → Appends before now answer.text → AnswersLine line here old new answer.next.number left before now
-rest_answered line command here old new answer left before now asks is service_is session_state_are left_is wrote = record {
+    → unread ≡ Some answer.next.lines → Appends before now answer.text → AnswersLine line here old new answer.next.number unread before now
+rest_answered line command here old new answer unread before now asks is service_is session_state_are left_is wrote = record {
   answer = answer;
   answers = inl (sym (ap (λ c. answer_to old.job c here) asks ∙ is));
   service_is = service_is;
@@ -105,12 +105,12 @@ rest_answered line command here old new answer left before now asks is service_i
 }
 
 -- a line that asks for nothing
-pub nothing_answered : (line : List ℕ) (here : Place) (held : ServiceWithSession) (left : Option (List (List ℕ))) (before now : Option (List ℕ)) → command_of line
-    ≡ Ok Nothing → Keeps held here.state → left ≡ Some here.lines
-    → Appends before now [] → AnswersLine line here held.service held here.number left before now
+pub nothing_answered : (line : List ℕ) (here : Place) (held : ServiceWithSession) (unread : Option (List (List ℕ))) (before now : Option (List ℕ)) → command_of line
+    ≡ Ok Nothing → Keeps held here.state → unread ≡ Some here.lines
+    → Appends before now [] → AnswersLine line here held.service held here.number unread before now
 unfolding answer_to
-nothing_answered line here held left before now asks keeps left_is wrote =
-    rest_answered line (Ok Nothing) here held.service held (record { text = []; next = here }) left before now asks refl keeps.service_is
+nothing_answered line here held unread before now asks keeps left_is wrote =
+    rest_answered line (Ok Nothing) here held.service held (record { text = []; next = here }) unread before now asks refl keeps.service_is
     keeps.session_state_are left_is wrote
 
 -- an edit that is noted
@@ -121,14 +121,14 @@ edit_noted edit session_state now state are now_is = record {
   report_is = ap (λ n. n.report) now_is ∙ are.report_is;
 }
 
-pub edit_answered : (line : List ℕ) (edit : OneEdit) (here : Place) (held : ServiceWithSession) (session_state : Noted) (left : Option (List (List ℕ)))
+pub edit_answered : (line : List ℕ) (edit : OneEdit) (here : Place) (held : ServiceWithSession) (session_state : Noted) (unread : Option (List (List ℕ)))
     (before now : Option (List ℕ)) → command_of line ≡ Ok (Edit edit)
-    → Keeps held here.state → session_state ≡ record held.session_state { pending = stored (held.session_state.pending ++ edit ∷ []) } → left ≡ Some here.lines
-    → Appends before now [] → AnswersLine line here held.service (record { service = held.service; session_state = session_state }) here.number left before now
+    → Keeps held here.state → session_state ≡ record held.session_state { pending = stored (held.session_state.pending ++ edit ∷ []) } → unread ≡ Some here.lines
+    → Appends before now [] → AnswersLine line here held.service (record { service = held.service; session_state = session_state }) here.number unread before now
 unfolding answer_to
-edit_answered line edit here held session_state left before now asks keeps session_state_is left_is wrote =
+edit_answered line edit here held session_state unread before now asks keeps session_state_is left_is wrote =
     rest_answered line (Ok (Edit edit)) here held.service (record { service = held.service; session_state = session_state })
-    (record { text = []; next = record here { state = noted edit here.state } }) left before now asks refl
+    (record { text = []; next = record here { state = noted edit here.state } }) unread before now asks refl
     keeps.service_is (edit_noted edit held.session_state session_state here.state keeps.session_state_are session_state_is) left_is wrote
 
 -- what was published last, by the service and by the session
@@ -142,15 +142,15 @@ query_is : (own : ReadyJob) (query : Query) (here : Place) (held : ServiceWithSe
     (last_published held.service.told.list) held.session_state.report
 query_is own query here held keeps = ap₂ (query_text own query) (sym (published_is held.service here.state keeps.service_is)) (sym keeps.session_state_are.report_is)
 
-pub query_answered : (line : List ℕ) (query : Query) (here : Place) (held : ServiceWithSession) (left : Option (List (List ℕ))) (before now : Option (List ℕ))
+pub query_answered : (line : List ℕ) (query : Query) (here : Place) (held : ServiceWithSession) (unread : Option (List (List ℕ))) (before now : Option (List ℕ))
     → command_of line ≡ Ok (Ask query)
-    → Keeps held here.state → left ≡ Some here.lines
+    → Keeps held here.state → unread ≡ Some here.lines
     → Appends before now (query_text held.service.job query (last_published held.service.told.list) held.session_state.report) → AnswersLine line here held.service held
-    here.number left before now
+    here.number unread before now
 unfolding answer_to
-query_answered line query here held left before now asks keeps left_is wrote =
+query_answered line query here held unread before now asks keeps left_is wrote =
     rest_answered line (Ok (Ask query)) here held.service held
-    (record { text = query_text held.service.job query (last_published held.service.told.list) held.session_state.report; next = here }) left before now asks
+    (record { text = query_text held.service.job query (last_published held.service.told.list) held.session_state.report; next = here }) unread before now asks
     (ap (λ t. record { text = t; next = here }) (query_is held.service.job query here held keeps)) keeps.service_is keeps.session_state_are left_is wrote
 
 -- what was to be told can't be

@@ -34,7 +34,7 @@ one_more own first text number state line lines answer so_far answers = record {
 }
 
 -- a service, what was read and what was written, in the midst of a session
-pub record Midway (input : List ℕ) (old : ReadyState) (now : ServiceWithSession) (number : ℕ) (left : Option (List (List ℕ))) (before written : Option (List ℕ)) :
+pub record Midway (input : List ℕ) (old : ReadyState) (now : ServiceWithSession) (number : ℕ) (unread : Option (List (List ℕ))) (before written : Option (List ℕ)) :
     Type 0 where
   pub text : List ℕ
   pub state : State
@@ -42,7 +42,7 @@ pub record Midway (input : List ℕ) (old : ReadyState) (now : ServiceWithSessio
   pub so_far : SoFar old.job (first_place old input) (record { number = number; state = state; lines = lines }) text
   pub service_is : now.service ≡ after old state
   pub session_state_are : AreSessionState now.session_state state
-  pub left_is : left ≡ Some lines
+  pub left_is : unread ≡ Some lines
   pub wrote : Appends before written text
 
 pub at_first : (input : List ℕ) (known : Option (List ℕ)) (service : ReadyState) (session_state : Noted) (written : Option (List ℕ)) → known ≡ Some input
@@ -64,10 +64,10 @@ pub keeps_midway : (old : ReadyState) (now : ServiceWithSession) (state : State)
 keeps_midway old now state now_is are = record { service_is = subst (λ s. s ≡ after s state) (sym now_is) refl; session_state_are = are }
 
 -- where no line is left, the whole input was answered
-pub at_end : (input : List ℕ) (old : ReadyState) (now : ServiceWithSession) (number : ℕ) (left : Option (List (List ℕ))) (before written : Option (List ℕ))
-    (m : Midway input old now number left before written)
+pub at_end : (input : List ℕ) (old : ReadyState) (now : ServiceWithSession) (number : ℕ) (unread : Option (List (List ℕ))) (before written : Option (List ℕ))
+    (m : Midway input old now number unread before written)
     → m.lines ≡ [] → Serves input old now.service before written
-at_end input old now number left before written m no_more = record {
+at_end input old now number unread before written m no_more = record {
   text = m.text;
   place = record { number = number; state = m.state; lines = m.lines };
   comes = record {
@@ -79,10 +79,10 @@ at_end input old now number left before written m no_more = record {
 }
 
 -- a session that breaks off between two lines
-pub between_lines : (fault : ServeFault) (input : List ℕ) (old : ReadyState) (now : ServiceWithSession) (number : ℕ) (left : Option (List (List ℕ)))
+pub between_lines : (fault : ServeFault) (input : List ℕ) (old : ReadyState) (now : ServiceWithSession) (number : ℕ) (unread : Option (List (List ℕ)))
     (before written : Option (List ℕ))
-    → fault ≢ Write → Midway input old now number left before written → BreaksOff fault input old now.service before written
-between_lines fault input old now number left before written other m = record {
+    → fault ≢ Write → Midway input old now number unread before written → BreaksOff fault input old now.service before written
+between_lines fault input old now number unread before written other m = record {
   text = m.text;
   place = record { number = number; state = m.state; lines = m.lines };
   comes = record {
@@ -96,11 +96,11 @@ between_lines fault input old now number left before written other m = record {
 module _ (input : List ℕ) (old : ReadyState) (number : ℕ) (state : State) (line : List ℕ) (lines : List (List ℕ)) (text : List ℕ)
     (so_far : SoFar old.job (first_place old input) (record { number = number; state = state; lines = line ∷ lines }) text) where
   -- one more line is answered
-  line_after : (now : ReadyState) (new : ServiceWithSession) (reached : ℕ) (left : Option (List (List ℕ))) (before written more : Option (List ℕ)) → now
+  line_after : (now : ReadyState) (new : ServiceWithSession) (reached : ℕ) (unread : Option (List (List ℕ))) (before written more : Option (List ℕ)) → now
       ≡ after old state → Appends before written text
-      → AnswersLine line (record { number = number + 1; state = state; lines = lines }) (after old state) new reached left written more
-      → Midway input old new reached left before more
-  line_after now new reached left before written more now_is wrote a = record {
+      → AnswersLine line (record { number = number + 1; state = state; lines = lines }) (after old state) new reached unread written more
+      → Midway input old new reached unread before more
+  line_after now new reached unread before written more now_is wrote a = record {
     text = text ++ a.answer.text;
     state = a.answer.next.state;
     lines = a.answer.next.lines;
@@ -146,8 +146,8 @@ pub if_known : {P : List ℕ → Type 0} (known : Option (List ℕ)) → ((input
 if_known None h = tt
 if_known (Some input) h = h input refl
 
-module _ (input : List ℕ) (old : ReadyState) (now : ServiceWithSession) (number : ℕ) (left : Option (List (List ℕ))) (before written : Option (List ℕ))
-    (m : Midway input old now number left before written)
+module _ (input : List ℕ) (old : ReadyState) (now : ServiceWithSession) (number : ℕ) (unread : Option (List (List ℕ))) (before written : Option (List ℕ))
+    (m : Midway input old now number unread before written)
     (line : List ℕ) (rest : List (List ℕ)) (first : m.lines ≡ line ∷ rest) where
   abbrev here : Place
   here = record { number = number + 1; state = m.state; lines = rest }
@@ -156,18 +156,18 @@ module _ (input : List ℕ) (old : ReadyState) (now : ServiceWithSession) (numbe
   so_far_at = subst (λ ls. SoFar old.job (first_place old input) (record { number = number; state = m.state; lines = ls }) m.text) first m.so_far
 
   -- a line that is answered leads on
-  pub goes_on : (new : ServiceWithSession) (reached : ℕ) (left' : Option (List (List ℕ))) (more : Option (List ℕ)) → AnswersLine line here now.service new reached
-      left' written more → Midway input old new reached left' before more
-  goes_on new reached left' more a =
-      line_after input old number m.state line rest m.text so_far_at now.service new reached left' before written more m.service_is m.wrote
-      (subst (λ s. AnswersLine line here s new reached left' written more) m.service_is a)
+  pub goes_on : (new : ServiceWithSession) (reached : ℕ) (unread' : Option (List (List ℕ))) (more : Option (List ℕ)) → AnswersLine line here now.service new reached
+      unread' written more → Midway input old new reached unread' before more
+  goes_on new reached unread' more a =
+      line_after input old number m.state line rest m.text so_far_at now.service new reached unread' before written more m.service_is m.wrote
+      (subst (λ s. AnswersLine line here s new reached unread' written more) m.service_is a)
 
   -- a line that fails breaks the session off
   pub breaks_off : (fault : ServeFault) (new : ReadyState) (more : Option (List ℕ)) → FailsLine fault line here now.service new written more
       → BreaksOff fault input old new before more
   breaks_off fault new more (inl kept) =
       subst (λ w. BreaksOff fault input old new before w) (sym kept.2) (subst (λ s. BreaksOff fault input old s before written) (sym kept.1)
-      (between_lines fault input old now number left before written kept.0 m))
+      (between_lines fault input old now number unread before written kept.0 m))
   breaks_off fault new more (inr failed) =
       subst (λ f. BreaksOff f input old new before more) (sym failed.0)
       (unwritten input old number m.state line rest m.text so_far_at new before more failed.1

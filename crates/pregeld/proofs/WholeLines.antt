@@ -67,32 +67,32 @@ raw_lines-append (b ∷ c ∷ front) rest ends =
 -- ---- the line feeds that are left
 
 -- a line feed at x is the next one after the first i bytes of a text, and those after it are left
-pub record IsNextFeed (text : List ℕ) (i end x : ℕ) (left : List ℕ) : Type 0 where
+pub record IsNextFeed (text : List ℕ) (i end x : ℕ) (unread : List ℕ) : Type 0 where
   pub within : x < end
   pub feed : is_line_feed (get_or text x 0) ≡ true
   pub count : count_by is_line_feed (take (x + 1) text) ≡ count_by is_line_feed (take i text) + 1
-  pub after : left ≡ places_between is_line_feed text (x + 1) end
+  pub after : unread ≡ places_between is_line_feed text (x + 1) end
 
-next_feed : (text : List ℕ) (n i x : ℕ) (left : List ℕ) → i + n ≤ length text → places_from is_line_feed text i n ≡ x ∷ left → IsNextFeed text i (i + n) x left
+next_feed : (text : List ℕ) (n i x : ℕ) (unread : List ℕ) → i + n ≤ length text → places_from is_line_feed text i n ≡ x ∷ unread → IsNextFeed text i (i + n) x unread
 unfolding places_from
-next_feed text zero i x left fits found = absurd cc
-next_feed text (suc n) i x left fits found = elim (cases_Bool (is_line_feed (get_or text i 0))) [
+next_feed text zero i x unread fits found = absurd cc
+next_feed text (suc n) i x unread fits found = elim (cases_Bool (is_line_feed (get_or text i 0))) [
   | inl feed ↦
-      let here : i ∷ places_from is_line_feed text (i + 1) n ≡ x ∷ left = rw feed at found in
+      let here : i ∷ places_from is_line_feed text (i + 1) n ≡ x ∷ unread = rw feed at found in
       let first : i ≡ x = cc in
-      let rest : left ≡ places_from is_line_feed text (i + 1) n = cc in
+      let rest : unread ≡ places_from is_line_feed text (i + 1) n = cc in
       let size : n ≡ i + suc n - (i + 1) = omega arith in
-      subst (λ k. IsNextFeed text i (i + suc n) k left) first (record {
+      subst (λ k. IsNextFeed text i (i + suc n) k unread) first (record {
         within = omega arith;
         feed = feed;
         count = count_by_more_yes is_line_feed text i 0 (omega (arith, fits)) feed;
         after = rest ∙ ap (places_from is_line_feed text (i + 1)) size;
       })
   | inr other ↦
-      let later : places_from is_line_feed text (i + 1) n ≡ x ∷ left = rw other at found in
+      let later : places_from is_line_feed text (i + 1) n ≡ x ∷ unread = rw other at found in
       let end : i + 1 + n ≡ i + suc n = omega arith in
-      let next : IsNextFeed text (i + 1) (i + suc n) x left =
-      subst (λ k. IsNextFeed text (i + 1) k x left) end (next_feed text n (i + 1) x left (omega (arith, fits)) later) in
+      let next : IsNextFeed text (i + 1) (i + suc n) x unread =
+      subst (λ k. IsNextFeed text (i + 1) k x unread) end (next_feed text n (i + 1) x unread (omega (arith, fits)) later) in
       record {
         within = next.within;
         feed = next.feed;
@@ -120,11 +120,11 @@ to_end : (text : List ℕ) (i : ℕ) → i ≤ length text → i + (length text 
 to_end text i within = omega (arith, within)
 
 -- the next of the line feeds that are left
-pub next_left : (text feeds left : List ℕ) (i x : ℕ) → i ≤ length text → feeds ≡ places_between is_line_feed text i (length text) → feeds ≡ x ∷ left
-    → IsNextFeed text i (length text) x left
-next_left text feeds left i x within are found =
-    subst (λ k. IsNextFeed text i k x left) (to_end text i within)
-    (next_feed text (length text - i) i x left (omega (arith, within)) (sym are ∙ found))
+pub next_left : (text feeds unread : List ℕ) (i x : ℕ) → i ≤ length text → feeds ≡ places_between is_line_feed text i (length text) → feeds ≡ x ∷ unread
+    → IsNextFeed text i (length text) x unread
+next_left text feeds unread i x within are found =
+    subst (λ k. IsNextFeed text i k x unread) (to_end text i within)
+    (next_feed text (length text - i) i x unread (omega (arith, within)) (sym are ∙ found))
 
 -- where none is left, the front has all
 pub none_left : (text feeds : List ℕ) (i : ℕ) → i ≤ length text → feeds ≡ places_between is_line_feed text i (length text) → feeds ≡ []

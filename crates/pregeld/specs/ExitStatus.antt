@@ -16,8 +16,8 @@ use Rattle.pregeld.specs.declared.session.ServeFault.{ServeFault}
 pub record ServesWords (words : List Text) (remaining before now : Option (List ℕ)) : Type 0 where
   pub options : Options
   pub asked : AsksForRuns words options
-  pub served : IfSome remaining (λ input. (publisher : Book) × (left : ReadyState)
-      × Serves input (fresh (job_of_options options) publisher) left before now)
+  pub served : IfSome remaining (λ input. (publisher : Book) × (unread : ReadyState)
+      × Serves input (fresh (job_of_options options) publisher) unread before now)
 
 -- a fault broke off a session of the job that the words ask for, where the bytes that there were
 -- are known
@@ -26,31 +26,31 @@ pub record BreaksOffWords (words : List Text)
   pub options : Options
   pub asked : AsksForRuns words options
   pub fault : ServeFault
-  pub broken : IfSome remaining (λ input. (publisher : Book) × (left : ReadyState)
-      × BreaksOff fault input (fresh (job_of_options options) publisher) left before now)
+  pub broken : IfSome remaining (λ input. (publisher : Book) × (unread : ReadyState)
+      × BreaksOff fault input (fresh (job_of_options options) publisher) unread before now)
 
 -- a text was added to what was written, where that is known
 abbrev pub AddsText : Option (List ℕ) → Option (List ℕ) → Type 0
 AddsText before now = (text : List ℕ) × Appends before now text
 
 module _ {R W : Type 0} (remaining : R → Option (List ℕ)) (contents : W → Option (List ℕ)) where
-  module _ (words : List Text) (reader left : R) (writer written : W) where
+  module _ (words : List Text) (reader unread : R) (writer written : W) where
     -- nothing was read or written
     abbrev pub IsUntouched : Type 0
-    IsUntouched = (left ≡ reader) × (written ≡ writer)
+    IsUntouched = (unread ≡ reader) × (written ≡ writer)
 
     -- status 0: help was asked for, nothing was read, and a text was written; or a whole session
     -- was served
     abbrev pub EndsWell : Type 0
     EndsWell =
-        (AsksForHelp words × (left ≡ reader) × AddsText (contents writer) (contents written))
+        (AsksForHelp words × (unread ≡ reader) × AddsText (contents writer) (contents written))
         ⊎ ServesWords words (remaining reader) (contents writer) (contents written)
 
     -- status 1: help was asked for, and nothing was read; there was no memory for the words, and
     -- nothing was read or written; or a session was broken off
     abbrev pub EndsBroken : Type 0
     EndsBroken =
-        ((AsksForHelp words × (left ≡ reader)) ⊎ IsUntouched)
+        ((AsksForHelp words × (unread ≡ reader)) ⊎ IsUntouched)
         ⊎ BreaksOffWords words (remaining reader) (contents writer) (contents written)
 
     -- status 2: the words are at fault, and nothing was read or written

@@ -45,11 +45,11 @@ Imports edges old reply new =
 abbrev pub ImportsLines :
     Form → ℕ → List (List ℕ) → ReadyState → Option Reply → ReadyState
     → Option (List (List ℕ)) → Type 0
-ImportsLines form n lines old None new left = (length lines < n) × (new ≡ old) × (left ≡ Some [])
-ImportsLines form n lines old (Some reply) new left =
+ImportsLines form n lines old None new unread = (length lines < n) × (new ≡ old) × (unread ≡ Some [])
+ImportsLines form n lines old (Some reply) new unread =
     (n ≤ length lines)
     × Imports (edges_of form (concat (take n lines))) old reply new
-    × (left ≡ Some (drop n lines))
+    × (unread ≡ Some (drop n lines))
 
 -- a refresh may be answered so and reported, or refused, and then no run is kept
 abbrev pub Refreshes : ServiceWithSession → Reply → ServiceWithSession → Type 0
@@ -86,23 +86,23 @@ pub record Keeps (held : ServiceWithSession) (state : State) : Type 0 where
 
 -- a command was answered with this line, and the session goes on past the line of this number
 pub record RepliesTo (command : Result Command LineFault) (here : Place) (old : ReadyState)
-    (reply : Reply) (number : ℕ) (new : ServiceWithSession) (left : Option (List (List ℕ))) : Type 0 where
+    (reply : Reply) (number : ℕ) (new : ServiceWithSession) (unread : Option (List (List ℕ))) : Type 0 where
   pub next : Place
   pub answers : Answers old.job command here (answered reply next)
   pub service_is : new.service ≡ after old next.state
   pub session_state_are : AreSessionState new.session_state next.state
   pub number_is : next.number ≡ number
-  pub left_is : left ≡ Some next.lines
+  pub left_is : unread ≡ Some next.lines
 
 -- a line was answered so, and the session goes on there
 pub record AnswersLine (line : List ℕ) (here : Place) (old : ReadyState) (new : ServiceWithSession) (number : ℕ)
-    (left : Option (List (List ℕ))) (before now : Option (List ℕ)) : Type 0 where
+    (unread : Option (List (List ℕ))) (before now : Option (List ℕ)) : Type 0 where
   pub answer : Answer
   pub answers : Answers old.job (command_of line) here answer
   pub service_is : new.service ≡ after old answer.next.state
   pub session_state_are : AreSessionState new.session_state answer.next.state
   pub number_is : answer.next.number ≡ number
-  pub left_is : left ≡ Some answer.next.lines
+  pub left_is : unread ≡ Some answer.next.lines
   pub wrote : Appends before now answer.text
 
 -- what was to be written couldn't be, or there was no memory for it

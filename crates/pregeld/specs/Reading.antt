@@ -1,4 +1,4 @@
--- What a session's reader has left.
+-- What a session's reader has not read yet.
 use Rattle.std.specs.Prelude.{◌≡◌, ℕ, Bool, true, false, ◌<◌, ◌≤◌, List, [], ◌∷◌, ◌++◌}
 use Rattle.std.specs.Prelude.{length, take, drop, Option, None, Some, option_map}
 use Rattle.std.specs.List.{concat}
@@ -8,7 +8,7 @@ use Rattle.pg_import.specs.Text.{raw_lines}
 use Rattle.pregeld.specs.declared.block.Block.{Block}
 use Rattle.pregeld.specs.declared.block.Block.TheVariants.{Whole, CutShort, NoMemory}
 
--- the lines of the bytes that are left, where those are known
+-- the lines of the bytes that are unread, where those are known
 abbrev pub lines_left : Option (List ℕ) → Option (List (List ℕ))
 lines_left known = option_map raw_lines known
 
@@ -23,24 +23,24 @@ AreWholeLines n text = (length (raw_lines text) ≡ n) × IsEmptyOrEndsWith text
 -- so many lines were taken: onto a text, or set aside for want of memory, or there were fewer
 abbrev pub TakesLines :
     ℕ → Block → List (List ℕ) → List ℕ → List ℕ → Option (List (List ℕ)) → Type 0
-TakesLines n Whole lines old new left =
-    (n ≤ length lines) × (new ≡ old ++ concat (take n lines)) × (left ≡ Some (drop n lines))
-TakesLines n NoMemory lines old new left = (n ≤ length lines) × (left ≡ Some (drop n lines))
-TakesLines n CutShort lines old new left = (length lines < n) × (left ≡ Some [])
+TakesLines n Whole lines old new unread =
+    (n ≤ length lines) × (new ≡ old ++ concat (take n lines)) × (unread ≡ Some (drop n lines))
+TakesLines n NoMemory lines old new unread = (n ≤ length lines) × (unread ≡ Some (drop n lines))
+TakesLines n CutShort lines old new unread = (length lines < n) × (unread ≡ Some [])
 
 -- so many lines were set aside, or there were fewer
 abbrev pub SkipsLines : ℕ → Block → List (List ℕ) → Option (List (List ℕ)) → Type 0
-SkipsLines n Whole lines left = ⊥
-SkipsLines n NoMemory lines left = (n ≤ length lines) × (left ≡ Some (drop n lines))
-SkipsLines n CutShort lines left = (length lines < n) × (left ≡ Some [])
+SkipsLines n Whole lines unread = ⊥
+SkipsLines n NoMemory lines unread = (n ≤ length lines) × (unread ≡ Some (drop n lines))
+SkipsLines n CutShort lines unread = (length lines < n) × (unread ≡ Some [])
 
--- what is left of the line that a text begins with was set aside, or the text is at its end
+-- the rest of the line that a text begins with was set aside, or the text is at its end
 abbrev pub SkipsLine : Bool → List ℕ → Option (List ℕ) → Type 0
-SkipsLine true text left = (0 < length text) × (left ≡ Some (drop_through 10 text))
-SkipsLine false text left = (text ≡ []) × (left ≡ Some [])
+SkipsLine true text unread = (0 < length text) × (unread ≡ Some (drop_through 10 text))
+SkipsLine false text unread = (text ≡ []) × (unread ≡ Some [])
 
--- the next line of a reader, or none where it has no line left
+-- the next line of a reader, or none where it has no more lines
 abbrev pub NextLine : Option (List ℕ) → List (List ℕ) → Option (List (List ℕ)) → Type 0
-NextLine None lines left = lines ≡ []
-NextLine (Some line) lines left =
-    (rest : List (List ℕ)) × (lines ≡ line ∷ rest) × (left ≡ Some rest)
+NextLine None lines unread = lines ≡ []
+NextLine (Some line) lines unread =
+    (rest : List (List ℕ)) × (lines ≡ line ∷ rest) × (unread ≡ Some rest)

@@ -50,7 +50,7 @@ pub record State : Type 0 where
   pub report : Option Report  -- of the last refresh of this session that was answered
   pub kept : Option Rows  -- the graph of the run that the next refresh may reuse
 
--- where a session stands: how many lines were read, what it keeps, and the lines that are left,
+-- where a session stands: how many lines were read, what it keeps, and the lines that are unread,
 -- each with its line feed
 pub record Place : Type 0 where
   pub number : ℕ

@@ -197,7 +197,7 @@ pub(crate) fn skip_lines<R: BufRead>(count: u32, reader: &mut R) -> Result<Block
     Ok(Block::NoMemory)
 }
 
-/// Sets aside what is left of a line, or finds the input at its end.
+/// Sets aside the rest of a line, or finds the input at its end.
 fn skip_line<R: BufRead>(reader: &mut R) -> Result<bool, ServeFault>
     ensures ok { IfOk result (λ there. (rest : List ℕ) → R.remaining reader.old ≡ Some rest
         → SkipsLine there rest (R.remaining reader.new)) }

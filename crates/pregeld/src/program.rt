@@ -107,12 +107,12 @@ fn serve_asked<H: Threads + Wait + Sync, R: BufRead, W: Write>(
 ) -> (Result<(), ServeFault>, Option<ReadyService>)
     requires range { AreInRange options.now }
     requires none { session_state.old ≡ record { pending = []; report = None } }
-    ensures ok { OnOk result.0 (IfSome (R.remaining reader.old) (λ input. (publisher : Book) × (left : ReadyState)
-        × Serves input (fresh (job_of_options options.now) publisher) left (W.contents writer.old)
+    ensures ok { OnOk result.0 (IfSome (R.remaining reader.old) (λ input. (publisher : Book) × (unread : ReadyState)
+        × Serves input (fresh (job_of_options options.now) publisher) unread (W.contents writer.old)
         (W.contents writer.new))) }
     ensures err { IfErr result.0 (λ fault. ((reader.new ≡ reader.old) × (writer.new ≡ writer.old))
-        ⊎ IfSome (R.remaining reader.old) (λ input. (publisher : Book) × (left : ReadyState)
-        × BreaksOff fault input (fresh (job_of_options options.now) publisher) left
+        ⊎ IfSome (R.remaining reader.old) (λ input. (publisher : Book) × (unread : ReadyState)
+        × BreaksOff fault input (fresh (job_of_options options.now) publisher) unread
         (W.contents writer.old) (W.contents writer.new))) }
 {
     let Ok(mut service) = service_of(rt, alloc, options) else {

@@ -1,4 +1,4 @@
-//! Peeling: what is left when vertices of too few edges are removed, again and again.
+//! Peeling: what remains when vertices of too few edges are removed, again and again.
 ghost use Rattle.std.specs.Prelude.{◌≡◌, cond, int_le, pos, nat_abs};
 ghost use Rattle.pg_graph.specs.Handed.{without_edge};
 ghost use Rattle.pg_model.specs.Programs.{edges_left};

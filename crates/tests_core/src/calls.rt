@@ -174,7 +174,7 @@ fn a_vertex_that_hears_nothing_now_is_not_called(rt: HostRuntime) -> Result<(), 
     Ok(())
 }
 
-// Edits named all vertices, and left each as it was.
+// Edits named all vertices, and let each be as it was.
 #[test]
 fn vertices_that_are_restored_are_not_called(rt: HostRuntime) -> Result<(), Fail> {
     let alloc = rt.alloc();

@@ -170,7 +170,7 @@ fn first<P: Computation, C: MessageCombiner<P::Message>, M: MasterCompute>(
     left_by(alloc, core, limits, &wanted, trials)
 }
 
-// The same against what a run on another graph left.
+// The same against what is retained of a run on another graph.
 fn warm<P: Computation, C: MessageCombiner<P::Message>, M: MasterCompute>(
     alloc: Global,
     graph: &Graph,

@@ -116,7 +116,7 @@ fn left_by<P: Computation, C: MessageCombiner<P::Message>, M: MasterCompute>(
     Ok(retained)
 }
 
-// What a run tells against what another one left, in which this happens, and what it leaves.
+// What a run tells against what is retained of another one, in which this happens, and what it leaves.
 fn driven_warm<P: Computation + Drop + Copy, C: MessageCombiner<P::Message>, M: MasterCompute>(
     alloc: Global,
     graph: &Graph,

@@ -249,13 +249,13 @@ fn is_named(id: u64, messages: &[i64]) -> bool {
 }
 
 fn peels(alloc: Global, k: u32, cell: &mut Cell, sent: &mut Sent) -> Result<(), Fail> {
-    let mut left = Vec::new(alloc);
+    let mut remaining = Vec::new(alloc);
     for edge in &cell.edges {
         if !is_named(edge.0, cell.inbox.as_slice()) {
-            left.push(*edge)?;
+            remaining.push(*edge)?;
         }
     }
-    cell.edges = left;
+    cell.edges = remaining;
     cell.halted = true;
     if cell.value == 1 && (cell.edges.len() as u64) < u64::from(k) {
         cell.value = 0;

@@ -151,7 +151,7 @@ fn graph_before(rt: &impl Abort, alloc: Global) -> Result<Graph, Fail> {
 }
 
 // What a list adds to what is there.
-fn edits_beside(rt: &impl Abort) -> [Edit; 5] {
+fn edits_of_both(rt: &impl Abort) -> [Edit; 5] {
     let (one, two, three) = (id(rt, b"1"), id(rt, b"2"), id(rt, b"3"));
     [
         Edit::AddVertex(two, 0),
@@ -173,7 +173,7 @@ fn adds_only_what_the_graph_lacks(rt: HostRuntime) -> Result<(), Fail> {
     let alloc = rt.alloc();
     let mut graph = graph_before(&rt, alloc)?;
     let batch = batch_of(alloc, b"1 2 7\n3 1 -4\n3 1 6\n2 3", &graph)?;
-    assert_eq!(rt; batch.as_slice(), edits_beside(&rt).as_slice());
+    assert_eq!(rt; batch.as_slice(), edits_of_both(&rt).as_slice());
     graph.apply(alloc, &batch)?;
     has_rows(&rt, alloc, &graph, "1:10[2=7,]2:0[3=1,]3:30[1=6,9=2,]")?;
     assert_eq!(rt; (graph.vertices(), graph.edges()), (3, 4));

@@ -340,8 +340,8 @@ fn logs_keep(rt: HostRuntime) -> Result<(), Memory> {
 fn are_forgotten(alloc: Global, logs: &Logs<i64>) -> Result<bool, Memory> {
     for number in 0..48u32 {
         let (superstep, sender, receiver) = place_of(number);
-        let left = if sender == 1 { -1 } else { i64::from(number) };
-        if message_in(alloc, logs, (superstep, sender, receiver))? != left {
+        let remaining = if sender == 1 { -1 } else { i64::from(number) };
+        if message_in(alloc, logs, (superstep, sender, receiver))? != remaining {
             return Ok(false);
         }
     }
@@ -469,14 +469,14 @@ fn counted_with_changes(rt: HostRuntime) -> Result<(), Memory> {
 }
 
 // What 4 receives where who sent first doesn't have the lower id.
-fn inbox_of_turned(alloc: Global) -> Result<String, Memory> {
+fn inbox_of_reversed(alloc: Global) -> Result<String, Memory> {
     let reversed = bundle_of(alloc, &[(3, 4, 2), (1, 4, 3)], AnyCombiner::NoCombiner)?;
     inbox_of(alloc, &[&reversed], 4, AnyCombiner::NoCombiner)
 }
 
 #[test]
 fn put_in_order_of_senders(rt: HostRuntime) -> Result<(), Memory> {
-    let text = inbox_of_turned(rt.alloc())?;
+    let text = inbox_of_reversed(rt.alloc())?;
     assert_eq!(rt; text.as_str(), "3,2,");
     Ok(())
 }

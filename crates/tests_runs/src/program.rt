@@ -316,7 +316,7 @@ fn three_edges(alloc: Global) -> Result<Vertex<i64>, Fail> {
     Ok(vertex)
 }
 
-// The vertex in its next execution, a copy of the edges that the first one left, and whether that voted to halt.
+// The vertex in its next execution, a copy of the edges that the first one had, and whether that voted to halt.
 fn in_next_execution(
     alloc: Global,
     vertex: Vertex<i64>,
@@ -349,7 +349,7 @@ fn edges_of(alloc: Global, edges: &[(VertexId, i64)]) -> Result<String, Memory> 
     Ok(text)
 }
 
-// Vertex 5 in its second execution, after changes, and a copy of the edges that the first one left.
+// Vertex 5 in its second execution, after changes, and a copy of the edges that the first one had.
 fn changed(rt: &impl Abort, alloc: Global) -> Result<(Vertex<i64>, Edges), Fail> {
     let (mut vertex, shared, halted) = in_next_execution(alloc, three_edges(alloc)?)?;
     assert!(rt; !halted);
@@ -387,9 +387,9 @@ fn changes_edges(rt: HostRuntime) -> Result<(), Fail> {
     let (vertex, shared) = changed(&rt, alloc)?;
     is_changed(&rt, &vertex)?;
     are_edges(&rt, alloc, vertex.edges(), " 1=11 7=-7 9=90")?;
-    let (_, left, halted) = in_next_execution(alloc, vertex)?;
+    let (_, remaining, halted) = in_next_execution(alloc, vertex)?;
     assert!(rt; halted);
-    are_edges(&rt, alloc, left.as_slice(), " 1=11 7=-7 9=90")?;
+    are_edges(&rt, alloc, remaining.as_slice(), " 1=11 7=-7 9=90")?;
     are_edges(&rt, alloc, shared.as_slice(), " 2=25 7=70 9=90")
 }
 

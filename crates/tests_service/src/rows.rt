@@ -42,7 +42,7 @@ fn the_same_as_a_run_from_scratch(rt: HostRuntime) -> Result<(), Fail> {
     Ok(())
 }
 
-// The two hops, a shortcut, the first hop withdrawn, an edge that is added and taken away again.
+// The two hops, a shortcut, the first hop retracted, an edge that is added and taken away again.
 #[test]
 fn each_refresh_calls_what_differs(rt: HostRuntime) -> Result<(), Fail> {
     let alloc = rt.alloc();

@@ -159,7 +159,7 @@ fn unlost_first(
     unlost(alloc, graph, &program, &combiner, &master, limits)
 }
 
-// The calls of the steps in which no worker falls, and what such a run leaves: against what one left before.
+// The calls of the steps in which no worker falls, and what such a run leaves: against what one retained before.
 fn unlost_next(
     alloc: Global,
     previous: &Previous,
@@ -178,7 +178,7 @@ fn unlost_next(
     )
 }
 
-// The calls of the steps against what was left, if anything is kept, and from scratch; and what is left then.
+// The calls of the steps against what was retained, if anything is kept, and from scratch; and what is retained then.
 fn calls_of(
     alloc: Global,
     previous: &Previous,

@@ -17,7 +17,7 @@ use std::test::Fail;
 use std::thread::Threads;
 use tests_rounds::{Strike, Strikes};
 
-// Two are taken away, one of vertex 1 and one of vertex 2, and one is left.
+// Two are taken away, one of vertex 1 and one of vertex 2, and one remains.
 const THREE_EDGES: [Line; 6] = [
     Line::Vertex(1),
     Line::Vertex(2),
@@ -103,7 +103,7 @@ fn an_edge_is_added_and_taken_away(rt: HostRuntime) -> Result<(), Fail> {
 }
 
 // Worker 1 of two falls once it has stepped partition 1 from superstep 1, and the edges are taken away again. An edge
-// to a vertex that there isn't is counted too: two are left then.
+// to a vertex that there isn't is counted too: two remain then.
 #[test]
 fn edges_are_taken_away_after_a_loss(rt: HostRuntime) -> Result<(), Fail> {
     let alloc = rt.alloc();

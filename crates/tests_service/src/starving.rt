@@ -111,7 +111,7 @@ fn the_only_worker_wants_memory(rt: HostRuntime) -> Result<(), Fail> {
     Ok(())
 }
 
-// Which of two workers makes a call is left to the threads in superstep 0; later only one vertex is called.
+// Which of two workers makes a call is up to the threads in superstep 0; later only one vertex is called.
 #[test]
 fn one_of_two_workers_wants_memory(rt: HostRuntime) -> Result<(), Fail> {
     let alloc = rt.alloc();

@@ -55,7 +55,7 @@ impl Trials {
 
     // Whether enough refreshes ended, enough workers fell, and enough refreshes were refused for each reason. In all
     // three tests there are 648 refreshes, in which 424 workers fall: 512 end, 25 are refused as too many workers fell,
-    // 99 as none was left, and 12 as the device failed.
+    // 99 as none remained, and 12 as the device failed.
     pub(crate) fn is_enough(&self) -> bool {
         let counts = self.counts;
         counts.runs == 216

@@ -296,14 +296,14 @@ fn is_left(graph: &Graph, fault: EditFault) -> bool {
     fault.position == 0 && fault.kind.number() == 1 && points(graph, true)
 }
 
-// Makes a batch, once more where it was refused. The answer is whether a refusal left the graph.
+// Makes a batch, once more where it was refused. The answer is whether a refusal kept the graph.
 fn make(alloc: Global, graph: &mut Graph, batch: &Batch) -> Result<bool, EditFault> {
     match graph.apply(alloc, batch) {
         Ok(()) => Ok(true),
         Err(fault) => {
-            let left = is_left(graph, fault);
+            let remaining = is_left(graph, fault);
             graph.apply(alloc, batch)?;
-            Ok(left)
+            Ok(remaining)
         }
     }
 }

@@ -109,9 +109,9 @@ impl PlainGraph {
     // A graph has the same rows in order, and counts them and their edges.
     pub(crate) fn is_shown_by(&self, graph: &Graph) -> bool {
         let mut edges: u64 = 0;
-        let mut left = self.rows.iter();
+        let mut remaining = self.rows.iter();
         for (id, row) in graph.iter() {
-            let Some((expected, plain)) = left.next() else {
+            let Some((expected, plain)) = remaining.next() else {
                 return false;
             };
             if id != expected || !is_row(row, plain) {
@@ -119,7 +119,7 @@ impl PlainGraph {
             }
             edges = edges.saturating_add(plain.edges.len() as u64);
         }
-        left.next().is_none()
+        remaining.next().is_none()
             && graph.vertices() == self.rows.len() as u64
             && graph.edges() == edges
     }

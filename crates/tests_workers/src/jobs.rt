@@ -121,7 +121,7 @@ pub(crate) fn first<
     driven(rt, alloc, core, shelf, fate, gate, &wanted)
 }
 
-// What comes of a run against what another one left, on a graph that differs at these ids.
+// What comes of a run against what is retained of another one, on a graph that differs at these ids.
 pub(crate) fn after_first<
     R: Threads + Wait + Sync,
     P: Computation,

@@ -146,7 +146,7 @@ fn tried_first<R: Threads + Wait + Sync>(
     })
 }
 
-// Whether both agree against what both left before.
+// Whether both agree against what both retained before.
 fn tried_warm<R: Threads + Wait + Sync>(
     rt: &R,
     alloc: Global,
@@ -184,7 +184,7 @@ fn tried_warm<R: Threads + Wait + Sync>(
     })
 }
 
-// Whether both agree against what both left before, or from scratch where the run before was refused.
+// Whether both agree against what both retained before, or from scratch where the run before was refused.
 fn tried_next<R: Threads + Wait + Sync>(
     rt: &R,
     alloc: Global,
@@ -215,7 +215,7 @@ const SIZE: GraphSize = GraphSize {
     sources: 9,
 };
 
-// A run from scratch, one against what it left on an edited graph, and one more against that.
+// A run from scratch, one against what it retained on an edited graph, and one more against that.
 fn tried<R: Threads + Wait + Sync>(
     rt: &R,
     alloc: Global,
@@ -256,7 +256,7 @@ fn all_tried<R: Threads + Wait + Sync>(
 }
 
 // How many triples there are of each program, combiner and policy. In all three tests there were 540 runs, in which 436
-// workers fell: 409 ended, 39 were refused as too many workers fell, and 92 as none was left.
+// workers fell: 409 ended, 39 were refused as too many workers fell, and 92 as none remained.
 const TRIPLES: u32 = 5;
 
 // Such triples of a program with each combiner.

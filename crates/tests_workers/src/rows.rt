@@ -40,7 +40,7 @@ fn paths<R: Threads + Wait + Sync, S: Shelf, F: Fate>(
     )
 }
 
-// The shortest paths from vertex 1 in a run against what another left.
+// The shortest paths from vertex 1 in a run against what another retained.
 fn paths_warm<R: Threads + Wait + Sync, F: Fate>(
     rt: &R,
     alloc: Global,
@@ -192,7 +192,7 @@ fn a_vertex_is_created_after_a_loss(rt: HostRuntime) -> Result<(), Fail> {
     Ok(())
 }
 
-// Each vertex takes away an edge, and sees how many are left; one of them does both again.
+// Each vertex takes away an edge, and sees how many remain; one of them does both again.
 #[test]
 fn edges_are_taken_away_after_a_loss(rt: HostRuntime) -> Result<(), Fail> {
     let alloc = rt.alloc();

@@ -63,7 +63,7 @@ fn fate_is_asked_after_the_step(rt: HostRuntime) -> Result<(), Fail> {
     Ok(())
 }
 
-// Which of two workers makes a call is left to the threads in superstep 0; later only one vertex is called.
+// Which of two workers makes a call is up to the threads in superstep 0; later only one vertex is called.
 #[test]
 fn one_of_two_workers_wants_memory(rt: HostRuntime) -> Result<(), Fail> {
     let alloc = rt.alloc();

@@ -20,8 +20,8 @@ returns-in_err-record g c =
 
 pub returns-then-rise : goal.returns-then-rise
 returns-then-rise g c =
-    let left = c.loop-one.one-iterator.rest in
-    let all = moved_all c.loop-one.yielded (nil_from_length left.items (sym left.ok.0 ∙ c.in-None.ensures.steps.0)) c.loop-one.invariant.whole in
+    let remaining = c.loop-one.one-iterator.rest in
+    let all = moved_all c.loop-one.yielded (nil_from_length remaining.items (sym remaining.ok.0 ∙ c.in-None.ensures.steps.0)) c.loop-one.invariant.whole in
     let may = held_all c.args.bounds.now c.args.superstep c.loop-one.yielded c.args.parts c.loop-one.records all c.loop-one.invariant.made
     c.loop-one.invariant.each
     (subst HasRisingIds c.as_slice.ensures (c.rise.ensures.yes c.if-rise.true)) in
@@ -29,7 +29,7 @@ returns-then-rise g c =
 
 pub returns-else-rise : goal.returns-else-rise
 returns-else-rise g c =
-    let left = c.loop-one.one-iterator.rest in
-    let all = moved_all c.loop-one.yielded (nil_from_length left.items (sym left.ok.0 ∙ c.in-None.ensures.steps.0)) c.loop-one.invariant.whole in
+    let remaining = c.loop-one.one-iterator.rest in
+    let all = moved_all c.loop-one.yielded (nil_from_length remaining.items (sym remaining.ok.0 ∙ c.in-None.ensures.steps.0)) c.loop-one.invariant.whole in
     not_held c.args.bounds.now c.args.superstep c.loop-one.yielded c.args.parts c.loop-one.records all c.loop-one.invariant.made
     (λ rise. c.rise.ensures.no c.if-rise.false (subst HasRisingIds (sym c.as_slice.ensures) rise))

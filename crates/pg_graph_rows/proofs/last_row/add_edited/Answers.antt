@@ -4,7 +4,7 @@ use Rattle.pg_graph_rows.proofs.LastRow.{edited_all, first_within, on_err, one_m
 use Rattle.pg_graph_rows.proofs.last_row.add_edited.Goals as goal
 
 pub loop-position-init : goal.loop-position-init
-loop-position-init c = record { now = option_copied c.args.row; left = refl; lies = c.in_ok-input.ensures.ok }
+loop-position-init c = record { now = option_copied c.args.row; remaining = refl; lies = c.in_ok-input.ensures.ok }
 
 pub edit_last-requires : goal.edit_last-requires
 edit_last-requires c =

@@ -4,11 +4,11 @@ use Rattle.pg_import.specs.Text.{line_of, raw_lines, words_of}
 use Rattle.pg_import.proofs.list.read_list.Given as goal
 
 -- the edges so far and those of the lines that are left are those of the text
-abbrev pub invariant-loop-left : goal.invariant-loop-left
-invariant-loop-left l =
-    (l.number + length (raw_lines l.left) ≡ length (raw_lines l.text))
+abbrev pub invariant-loop-unread : goal.invariant-loop-unread
+invariant-loop-unread l =
+    (l.number + length (raw_lines l.unread) ≡ length (raw_lines l.text))
     × (followed_by l.lines.items
-    (edges_from (l.number + 1) (map (λ raw. reading_of (words_of (line_of raw))) (raw_lines l.left))) ≡ list_of l.text)
+    (edges_from (l.number + 1) (map (λ raw. reading_of (words_of (line_of raw))) (raw_lines l.unread))) ≡ list_of l.text)
 
-abbrev pub decreases-loop-left : goal.decreases-loop-left
-decreases-loop-left l = length l.left
+abbrev pub decreases-loop-unread : goal.decreases-loop-unread
+decreases-loop-unread l = length l.unread

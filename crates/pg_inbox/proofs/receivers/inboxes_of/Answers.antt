@@ -13,11 +13,11 @@ loop-done-preserved g c =
     let items = c.args.message_lists.now in
     let done = c.loop-done.done in
     let count = c.in_ok-more.count in
-    let left = c.split_at.result.1.now in
+    let remaining = c.split_at.result.1.now in
     let back = c.split_at.ensures.back in
     let more = c.in_ok-more.more in
     record {
-      within = omega (arith, c.in_ok-more.ensures.count.1, cut_leaves items left done c.loop-done.invariant.within back);
+      within = omega (arith, c.in_ok-more.ensures.count.1, cut_leaves items remaining done c.loop-done.invariant.within back);
       inboxes = ap (λ l. more ++ made (groups_of l)) (sym (drop-drop count done items))
           ∙ ap (λ l. more ++ made (groups_of (drop count l))) (sym back)
           ∙ c.in_ok-more.ensures.more

@@ -4,7 +4,7 @@ use Rattle.pg_inbox_bundles.specs.Sound.{sent_message_lists}
 use Rattle.pg_inbox.proofs.receivers.inboxes_sent.Given as goal
 
 abbrev pub invariant-loop-target : goal.invariant-loop-target
-invariant-loop-target g l = l.inboxes ++ each_inbox (sent_message_lists l.left) ≡ each_inbox (sent_message_lists l.envelopes)
+invariant-loop-target g l = l.inboxes ++ each_inbox (sent_message_lists l.remaining) ≡ each_inbox (sent_message_lists l.envelopes)
 
 abbrev pub decreases-loop-target : goal.decreases-loop-target
-decreases-loop-target g l = length l.left
+decreases-loop-target g l = length l.remaining

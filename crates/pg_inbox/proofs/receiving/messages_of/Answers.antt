@@ -20,7 +20,7 @@ loop-message-preserved g c =
 
 pub returns : goal.returns
 returns g c =
-    let left = c.loop-message.message-iterator.rest in
+    let remaining = c.loop-message.message-iterator.rest in
     c.loop-message.invariant.so_far
     ∙ ap messages
-    (moved_all c.loop-message.yielded (nil_from_length left.items (sym left.ok.0 ∙ c.in-None.ensures.steps.0)) c.loop-message.invariant.whole)
+    (moved_all c.loop-message.yielded (nil_from_length remaining.items (sym remaining.ok.0 ∙ c.in-None.ensures.steps.0)) c.loop-message.invariant.whole)

@@ -7,8 +7,8 @@ use Rattle.pg_inbox_bundles.proofs.counting.undeliverable_sent.Given as goal
 abbrev pub invariant-loop-target : goal.invariant-loop-target
 invariant-loop-target g l = record {
   rows : l.rows ≡ l.graph;
-  count : l.count + messages_where (is_undeliverable l.graph) (sent_message_lists l.left) ≡ messages_where (is_undeliverable l.graph) (sent_message_lists l.envelopes);
+  count : l.count + messages_where (is_undeliverable l.graph) (sent_message_lists l.remaining) ≡ messages_where (is_undeliverable l.graph) (sent_message_lists l.envelopes);
 }
 
 abbrev pub decreases-loop-target : goal.decreases-loop-target
-decreases-loop-target g l = length l.left
+decreases-loop-target g l = length l.remaining

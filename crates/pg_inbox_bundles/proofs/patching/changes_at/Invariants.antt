@@ -11,10 +11,10 @@ invariant-loop-target g l =
     let changes = changes_of (g.C.MessageCombiner.combining l.combiner) l.old in
     record {
       same : l.cursor ≡ l.old;
-      items : l.changes.items ++ changes (groups_of l.left) ≡ changes (groups_of l.message_edits);
+      items : l.changes.items ++ changes (groups_of l.remaining) ≡ changes (groups_of l.message_edits);
       found : AreFound l.old l.changes.items l.changed.items;
       hold : AllByRecursion (λ c. HoldsAt g.M.Plain.is_value c.1) l.changes.items;
     }
 
 abbrev pub decreases-loop-target : goal.decreases-loop-target
-decreases-loop-target g l = length l.left
+decreases-loop-target g l = length l.remaining

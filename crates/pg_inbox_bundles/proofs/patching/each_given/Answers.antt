@@ -22,7 +22,7 @@ loop-id-preserved g c =
 
 pub returns : goal.returns
 returns g c =
-    let left = c.loop-id.id-iterator.rest in
+    let remaining = c.loop-id.id-iterator.rest in
     c.loop-id.invariant.so_far
     ∙ ap (map (needed c.args.envelopes.now))
-    (moved_all c.loop-id.yielded (nil_from_length left.items (sym left.ok.0 ∙ c.in-None.ensures.steps.0)) c.loop-id.invariant.whole)
+    (moved_all c.loop-id.yielded (nil_from_length remaining.items (sym remaining.ok.0 ∙ c.in-None.ensures.steps.0)) c.loop-id.invariant.whole)

@@ -12,7 +12,7 @@ pub message_edits_in_order-requires-after_bounds : goal.message_edits_in_order-r
 message_edits_in_order-requires-after_bounds g c κs within =
     let message_edits = message_edits_of c.args.retracted.now c.args.added.now in
     subst₂ AreById
-    (map-id c.as_slice.result.now ∙ c.as_slice.ensures.value ∙ c.in_ok-targets.ensures ∙ ap₂ ◌++◌ refl c.beside_targets.ensures
+    (map-id c.as_slice.result.now ∙ c.as_slice.ensures.value ∙ c.in_ok-targets.ensures ∙ ap₂ ◌++◌ refl c.with_targets.ensures
     ∙ sym (targets-message_edits_of c.args.retracted.now c.args.added.now)) (sym c.as_slice-2.ensures.value) c.in_ok-order.ensures
 
 pub returns : goal.returns
@@ -22,6 +22,6 @@ returns g c =
     IfOk-weaker c.message_edits_in_order.result (λ m. StandAt message_edits order m.items) (λ m. AreGroups message_edits (groups_of m.items))
     (λ m zip. groups_taken message_edits order m.items
     (subst₂ AreById
-    (map-id c.as_slice.result.now ∙ c.as_slice.ensures.value ∙ c.in_ok-targets.ensures ∙ ap₂ ◌++◌ refl c.beside_targets.ensures
+    (map-id c.as_slice.result.now ∙ c.as_slice.ensures.value ∙ c.in_ok-targets.ensures ∙ ap₂ ◌++◌ refl c.with_targets.ensures
     ∙ sym (targets-message_edits_of c.args.retracted.now c.args.added.now)) (sym c.as_slice-2.ensures.value) c.in_ok-order.ensures) zip)
     c.message_edits_in_order.ensures

@@ -19,8 +19,8 @@ returns-clause-entries g c =
     ∙ ap (λ v. made ++ v.items) c.replace.ensures.value)
     c.push.ensures
 
-pub returns-clause-left : goal.returns-clause-left
-returns-clause-left g c =
+pub returns-clause-remaining : goal.returns-clause-remaining
+returns-clause-remaining g c =
     let was = ap (λ v. v.items) c.replace.ensures.value in
     on_ok_weaker c.push.result
     (λ grown. cut_leaves c.args.piece.now.items c.in_ok-front.later.items c.args.count c.requires

@@ -44,8 +44,8 @@ returns-clause-chunks g c =
     ∙ ap (λ v. v.items) c.replace.ensures.value))
     c.requires.chunks)
 
-pub returns-clause-left : goal.returns-clause-left
-returns-clause-left g c =
+pub returns-clause-remaining : goal.returns-clause-remaining
+returns-clause-remaining g c =
     cut_leaves c.args.chunks.now.items c.in_ok-front.later.items c.args.count c.requires.bound
     (c.in_ok-front.ensures.others ∙ ap (λ v. drop c.args.count v.items) c.replace.ensures.value)
 

@@ -18,8 +18,8 @@ loop-id-preserved g c =
     let within : i < length now.id-items = omega (arith, c.loop-id-test.true, now.auto.id-items) in
     elim c.match-take.branch [
       | in-Some w ↦
-          let left = ap (drop (i + 1)) w.id-items-is ∙ drop-set-lt (i + 1) now.id-items i _ (omega arith) in
-          let done = put_turn now.id-items now.entries i d within now.invariant.there c.match-take.id-items c.match-take.entries _ w.in-Some.value left
+          let remaining = ap (drop (i + 1)) w.id-items-is ∙ drop-set-lt (i + 1) now.id-items i _ (omega arith) in
+          let done = put_turn now.id-items now.entries i d within now.invariant.there c.match-take.id-items c.match-take.entries _ w.in-Some.value remaining
           (sym c.take.ensures.value ∙ w.in-Some.is) (w.entries-is ∙ w.put_value.ensures) now.invariant.made now.invariant.rise in
           record { made = done.0; there = done.1; rise = done.2 }
       | in_default w ↦

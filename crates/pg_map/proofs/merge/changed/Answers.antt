@@ -25,7 +25,7 @@ loop-group-preserved g c =
     let parts = c.split_at.ensures.by_index.0 in
     let groups = subst AreGroups at now.invariant.groups in
     record {
-      made = part_turn grouped now.gathering _ now.left.now c.in-Some.others.now c.in-Some.group.now now.todo.now here later c.cut_of.result at parts
+      made = part_turn grouped now.gathering _ now.remaining.now c.in-Some.others.now c.in-Some.group.now now.todo.now here later c.cut_of.result at parts
           c.split_at.ensures.front c.split_at.ensures.back now.invariant.groups.0 now.invariant.entries_rise c.cut_of.ensures.cut c.in_ok-merge_group.ensures
           ∙ now.invariant.made;
       groups = (groups.0.1, groups.1.1);
@@ -41,7 +41,7 @@ pub returns-clause-entries : goal.returns-clause-entries
 returns-clause-entries g c =
     let now = c.loop-group in
     let none = c.as_slice.ensures.value ∙ c.new-none.ensures.items in
-    let over = nil_from_length now.left.now c.in_default.ensures.cases in
+    let over = nil_from_length now.remaining.now c.in_default.ensures.cases in
     IfOk-weaker c.finish.result _ _
     (λ made is. is ∙ c.in_ok-merge.ensures
     ∙ ap (λ l. now.gathering ++ with_changes now.todo.now l) (none ∙ sym (ap all_of over))

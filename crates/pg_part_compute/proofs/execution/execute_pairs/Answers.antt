@@ -6,7 +6,7 @@ use Rattle.pg_part_compute.specs.Found.{change_of, is_run}
 use Rattle.std.proofs.lemmas.List.{map-append, nil_from_length}
 use Rattle.pg_part_routing.proofs.Listing.{all_yielded, count_by-push, flat_map-push, more_calls}
 use Rattle.pg_program.specs.Context.{ShowsDeclared}
-use Rattle.pg_part_compute.proofs.Playing.{capped_fits, capped_same}
+use Rattle.pg_part_compute.proofs.StepDeltas.{capped_fits, capped_same}
 use Rattle.pg_part_compute.proofs.execution.execute_pairs.Goals as goal
 
 pub loop-vertex_pair-preserved : goal.loop-vertex_pair-preserved

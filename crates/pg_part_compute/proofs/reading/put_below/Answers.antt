@@ -22,10 +22,10 @@ loop-first-preserved g c =
     record {
       rise = sorted_tail nat_cmp first others (subst (IsStrictlySortedBy nat_cmp) at now.invariant.rise);
       put = λ inbox later rise.
-          let left = (id, inbox) ∷ later in
-          ap (λ l. l ++ with_empty others left) c.in_ok-all.ensures
-          ∙ append_assoc now.all ((first, []) ∷ []) (with_empty others left)
-          ∙ ap (λ l. now.all ++ l) (sym (empty_below id inbox later rise first others less) ∙ ap (λ l. with_empty l left) (sym at))
+          let remaining = (id, inbox) ∷ later in
+          ap (λ l. l ++ with_empty others remaining) c.in_ok-all.ensures
+          ∙ append_assoc now.all ((first, []) ∷ []) (with_empty others remaining)
+          ∙ ap (λ l. now.all ++ l) (sym (empty_below id inbox later rise first others less) ∙ ap (λ l. with_empty l remaining) (sym at))
           ∙ now.invariant.put inbox later rise;
     }
 
@@ -62,5 +62,5 @@ returns-then-lt-clause-put g c = λ inbox later rise.
 pub returns-clause-put : goal.returns-clause-put
 returns-clause-put g c = λ inbox later rise.
     let now = c.loop-first in
-    let none = nil_from_length now.left.now c.in_default.ensures.cases in
-    ap (λ l. now.all ++ l) (sym (none_left c.args.id inbox later rise now.left.now none)) ∙ now.invariant.put inbox later rise
+    let none = nil_from_length now.remaining.now c.in_default.ensures.cases in
+    ap (λ l. now.all ++ l) (sym (none_left c.args.id inbox later rise now.remaining.now none)) ∙ now.invariant.put inbox later rise

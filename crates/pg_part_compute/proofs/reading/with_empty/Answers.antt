@@ -20,7 +20,7 @@ loop-place-preserved g c =
       made = ap (λ l. l ++ with_empty above rest) c.in_ok-all-2.ensures
           ∙ append_assoc c.in_ok-put.put (one ∷ []) (with_empty above rest)
           ∙ c.in_ok-put.ensures.put one.1 rest rising
-          ∙ ap (λ l. now.all ++ with_empty now.left.now l) (sym at)
+          ∙ ap (λ l. now.all ++ with_empty now.remaining.now l) (sym at)
           ∙ now.invariant.made;
       ids_rise = c.in_ok-put.ensures.rise;
       inboxes_rise = rises_after one rest rising;

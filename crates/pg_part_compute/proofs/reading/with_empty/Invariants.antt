@@ -7,7 +7,7 @@ use Rattle.pg_part_compute.proofs.reading.with_empty.Given as goal
 
 abbrev pub invariant-loop-place : goal.invariant-loop-place
 invariant-loop-place g l = record {
-  made : l.all ++ with_empty l.left (drop l.place l.inboxes) ≡ with_empty l.ids l.inboxes;
-  ids_rise : IsStrictlySortedBy nat_cmp l.left;
+  made : l.all ++ with_empty l.remaining (drop l.place l.inboxes) ≡ with_empty l.ids l.inboxes;
+  ids_rise : IsStrictlySortedBy nat_cmp l.remaining;
   inboxes_rise : HasRisingIds (drop l.place l.inboxes);
 }

@@ -45,7 +45,7 @@ loop-place-preserved g c =
     let runs : View → VertexPair g.row.P-Value.Denot g.row.P-Message.Denot → _ = λ v c. is_some (reads v c.new) in
     let view = c.args.step_context.view in
     let meter = c.args.step_context.meter in
-    let left = λ (w : ℕ × List g.row.P-Message.Denot). option_to_list (left_cold program view c.args.missing s trace w) in
+    let remaining = λ (w : ℕ × List g.row.P-Message.Denot). option_to_list (left_cold program view c.args.missing s trace w) in
     record {
       dirty_ids = c.in_ok-push.ensures.items ∙ (ap (λ l. l ++ one.0 ∷ []) now.dirty_ids ∙ sym (map-append (λ x. x.0) before (one ∷ [])) ∙ ap keys_of next);
       changes = c.in_ok-execute_found.ensures.changes
@@ -63,11 +63,11 @@ loop-place-preserved g c =
       removed = with_push s trace (keys_of before) one.0 c.state_at-state.result c.in_ok-vertex_counts_delta.vertex_counts_delta.removed state
           (subst (λ vertex_counts. IsSum vertex_counts (vertex_counts_of (option_to_list c.state_at-state.result)) c.in_ok-vertex_counts_delta.vertex_counts_delta.removed) now.removed (c.in_ok-vertex_counts_delta.ensures one.0).removed)
           ∙ ap (λ l. vertex_counts_of (states_among s l trace)) (sym (map-append (λ x. x.0) before (one ∷ [])) ∙ ap keys_of next);
-      added = counted_push left before one c.in_ok-vertex_counts_delta.vertex_counts_delta.added
-          (subst (λ vertex_counts. IsSum vertex_counts (vertex_counts_of (left one)) c.in_ok-vertex_counts_delta.vertex_counts_delta.added) now.added
+      added = counted_push remaining before one c.in_ok-vertex_counts_delta.vertex_counts_delta.added
+          (subst (λ vertex_counts. IsSum vertex_counts (vertex_counts_of (remaining one)) c.in_ok-vertex_counts_delta.vertex_counts_delta.added) now.added
           (subst₂ (λ given o. IsSum c.loop-place.vertex_counts_delta.added (vertex_counts_of (option_to_list (state_after one.0 given o))) c.in_ok-vertex_counts_delta.vertex_counts_delta.added) given state
           (c.in_ok-vertex_counts_delta.ensures one.0).added))
-          ∙ ap (λ l. vertex_counts_of (flat_map left l)) next;
+          ∙ ap (λ l. vertex_counts_of (flat_map remaining l)) next;
       states = c.state_at-state.ensures.same ∙ now.states;
     }
 

@@ -12,8 +12,8 @@ loop-id-preserved g c =
 
 pub returns : goal.returns
 returns g c =
-    let left = c.loop-id.id-iterator.rest in
-    moved_all c.loop-id.all.items (nil_from_length left.items (sym left.ok.0 ∙ c.in-None.ensures.steps.0)) c.loop-id.invariant
+    let produced = c.loop-id.id-iterator.rest in
+    moved_all c.loop-id.all.items (nil_from_length produced.items (sym produced.ok.0 ∙ c.in-None.ensures.steps.0)) c.loop-id.invariant
 
 pub loop-id-init : goal.loop-id-init
 loop-id-init g c =

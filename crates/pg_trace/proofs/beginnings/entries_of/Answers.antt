@@ -22,9 +22,9 @@ loop-state-init g c = record { so_far = c.in_ok-entries.ensures.items; whole = c
 
 pub returns : goal.returns
 returns g c =
-    let left = c.loop-state.state-iterator.rest in
+    let produced = c.loop-state.state-iterator.rest in
     c.loop-state.invariant.so_far
-    ∙ ap by_id (moved_all c.loop-state.yielded (nil_from_length left.items (sym left.ok.0 ∙ c.in-None.ensures.steps.0)) c.loop-state.invariant.whole)
+    ∙ ap by_id (moved_all c.loop-state.yielded (nil_from_length produced.items (sym produced.ok.0 ∙ c.in-None.ensures.steps.0)) c.loop-state.invariant.whole)
 
 pub returns-in_err-entries : goal.returns-in_err-entries
 returns-in_err-entries g c = IfOk-from_err c.from_residual.result _ c.from_residual.ensures.0

@@ -10,8 +10,8 @@ loop-id-preserved g c =
 
 pub returns : goal.returns
 returns g c =
-    let left = c.loop-id.id-iterator.rest in
-    moved_all c.loop-id.changes (ap (map (λ e. (e.0, Some e.1))) (nil_from_length left.items (sym left.ok.0 ∙ c.in-None.ensures.steps.0))) c.loop-id.invariant
+    let remaining = c.loop-id.id-iterator.rest in
+    moved_all c.loop-id.changes (ap (map (λ e. (e.0, Some e.1))) (nil_from_length remaining.items (sym remaining.ok.0 ∙ c.in-None.ensures.steps.0))) c.loop-id.invariant
 
 pub loop-id-init : goal.loop-id-init
 loop-id-init g c =

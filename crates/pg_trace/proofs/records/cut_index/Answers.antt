@@ -13,28 +13,28 @@ use Rattle.pg_trace.proofs.records.cut_index.Goals as goal
 pub noted-requires-clause-rise : goal.noted-requires-clause-rise
 noted-requires-clause-rise g c =
     subst (IsStrictlySortedBy nat_cmp) (sym (ap keys_of (c.as_slice.ensures.value ∙ c.in_ok-none.ensures.none)
-    ∙ keys_of-map_values (λ x. None) c.index-supersteps-left.result)) c.none_given.ensures.rising
+    ∙ keys_of-map_values (λ x. None) c.index-supersteps-remaining.result)) c.none_given.ensures.rising
 
 pub noted-requires-clause-steps : goal.noted-requires-clause-steps
-noted-requires-clause-steps g c = index_rises (take c.loop-left.left c.args.supersteps.now) c.loop-left.first c.loop-left.invariant.index
+noted-requires-clause-steps g c = index_rises (take c.loop-remaining.remaining c.args.supersteps.now) c.loop-remaining.first c.loop-remaining.invariant.index
 
-pub loop-left-preserved : goal.loop-left-preserved
-loop-left-preserved g c =
+pub loop-remaining-preserved : goal.loop-remaining-preserved
+loop-remaining-preserved g c =
     let ss = c.args.supersteps.now in
-    let left = c.loop-left.left in
-    let within : left - 1 < length ss = omega (arith, c.loop-left-test.true, c.loop-left.invariant.high) in
-    let one : left ≡ left - 1 + 1 = omega (arith, c.loop-left-test.true) in
+    let remaining = c.loop-remaining.remaining in
+    let within : remaining - 1 < length ss = omega (arith, c.loop-remaining-test.true, c.loop-remaining.invariant.high) in
+    let one : remaining ≡ remaining - 1 + 1 = omega (arith, c.loop-remaining-test.true) in
     record {
-      low = omega (arith, c.loop-left-test.true);
+      low = omega (arith, c.loop-remaining-test.true);
       high = omega (arith, within);
-      index = index-less ss (left - 1) c.index-supersteps-left.result c.as_slice.result.now c.loop-left.first c.in_ok-first-2.first within
-          c.index-supersteps-left.is (subst (λ n. IsIndex (take n ss) c.loop-left.first) one c.loop-left.invariant.index)
+      index = index-less ss (remaining - 1) c.index-supersteps-remaining.result c.as_slice.result.now c.loop-remaining.first c.in_ok-first-2.first within
+          c.index-supersteps-remaining.is (subst (λ n. IsIndex (take n ss) c.loop-remaining.first) one c.loop-remaining.invariant.index)
           (c.as_slice.ensures.value ∙ c.in_ok-none.ensures.none)
-          (subst (λ n. IsNoted n c.as_slice.result.now c.loop-left.first c.in_ok-first-2.first) c.in_ok-checked_u32.ensures c.in_ok-first-2.ensures);
+          (subst (λ n. IsNoted n c.as_slice.result.now c.loop-remaining.first c.in_ok-first-2.first) c.in_ok-checked_u32.ensures c.in_ok-first-2.ensures);
     }
 
-pub loop-left-init : goal.loop-left-init
-loop-left-init g c =
+pub loop-remaining-init : goal.loop-remaining-init
+loop-remaining-init g c =
     let ss = c.args.supersteps.now in
     let all : length ss ≤ length ss = omega arith in
     record {
@@ -46,8 +46,8 @@ loop-left-init g c =
 pub returns : goal.returns
 returns g c =
     let ss = c.args.supersteps.now in
-    let first = c.loop-left.first in
-    let end : c.loop-left.left ≡ c.args.len = omega (arith, c.loop-left-test.false, c.loop-left.invariant.low) in
+    let first = c.loop-remaining.first in
+    let end : c.loop-remaining.remaining ≡ c.args.len = omega (arith, c.loop-remaining-test.false, c.loop-remaining.invariant.low) in
     IfOk-weaker c.sealed.result _ _
-    (λ after is. subst (λ ran. IsIndex (take c.args.len ss) ran) (sym is) (subst (λ n. IsIndex (take n ss) first) end c.loop-left.invariant.index))
+    (λ after is. subst (λ ran. IsIndex (take c.args.len ss) ran) (sym is) (subst (λ n. IsIndex (take n ss) first) end c.loop-remaining.invariant.index))
     c.sealed.ensures

@@ -16,21 +16,21 @@ loop-at-preserved c =
     let pushed : c.push.new.self.items ≡ before ++ e.run ∷ [] = c.in_ok-push.ensures.items in record {
       runs = ap (λ l. l ++ rest) (ap steps_of pushed ∙ map-append (λ r. r.superstep) before (e.run ∷ []))
           ∙ append_assoc (steps_of before) (e.run.superstep ∷ []) rest
-          ∙ ap (λ l. steps_of before ++ l) (sym (step_back log c.loop-at.left at c.loop-at-test.true c.if-at-left.true within no_run))
+          ∙ ap (λ l. steps_of before ++ l) (sym (step_back log c.loop-at.remaining at c.loop-at-test.true c.if-at-remaining.true within no_run))
           ∙ c.loop-at.invariant.runs;
-      within = omega (arith, within, c.if-at-left.true);
+      within = omega (arith, within, c.if-at-remaining.true);
     }
 
-pub returns-else-at-left : goal.returns-else-at-left
-returns-else-at-left c =
+pub returns-else-at-remaining : goal.returns-else-at-remaining
+returns-else-at-remaining c =
     let all = steps_of c.loop-at.runs.items in
-    sym (append-nil all) ∙ ap (λ l. all ++ l) (sym (back_past c.args.earlier.now c.loop-at.left c.loop-at.at c.if-at-left.false))
+    sym (append-nil all) ∙ ap (λ l. all ++ l) (sym (back_past c.args.earlier.now c.loop-at.remaining c.loop-at.at c.if-at-remaining.false))
     ∙ c.loop-at.invariant.runs
 
 pub returns-after-loop-at : goal.returns-after-loop-at
 returns-after-loop-at c =
     let all = steps_of c.loop-at.runs.items in
     let log = c.args.earlier.now in
-    let n = c.loop-at.left in
+    let n = c.loop-at.remaining in
     let none : c.loop-at.at ≡ 0 = omega (arith, c.loop-at-test.false) in
     sym (append-nil all) ∙ ap (λ l. all ++ l) (sym (ap (back log n) none ∙ back_none log n)) ∙ c.loop-at.invariant.runs

@@ -5,9 +5,9 @@ use Rattle.pg_trace_index.proofs.listing.add_back.Given as goal
 
 abbrev pub invariant-loop-at : goal.invariant-loop-at
 invariant-loop-at l = record {
-  runs : steps_of l.runs.items ++ back l.earlier l.left l.at ≡ steps_of l.fn.runs.items ++ back l.earlier (length l.earlier) l.fn.before;
-  within : l.left ≤ length l.earlier;
+  runs : steps_of l.runs.items ++ back l.earlier l.remaining l.at ≡ steps_of l.fn.runs.items ++ back l.earlier (length l.earlier) l.fn.before;
+  within : l.remaining ≤ length l.earlier;
 }
 
 abbrev pub decreases-loop-at : goal.decreases-loop-at
-decreases-loop-at l = l.left
+decreases-loop-at l = l.remaining

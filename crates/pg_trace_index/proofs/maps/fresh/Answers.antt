@@ -8,9 +8,9 @@ use Rattle.pg_trace_index.proofs.maps.fresh.Goals as goal
 pub loop-id-preserved-in-Continue-branch-2 : goal.loop-id-preserved-in-Continue-branch-2
 loop-id-preserved-in-Continue-branch-2 g c =
     let there = c.loop-id.there.items in
-    let left = c.next.new.self.rest.items in
-    ap (λ l. l ++ somes left) c.in_ok-push.ensures.items ∙ append_assoc there ((c.in-Some.id, c.in-Some-change.value) ∷ []) (somes left)
-    ∙ ap (λ o. there ++ somes ((c.in-Some.id, o) ∷ left)) (sym c.in-Some-change.is)
+    let remaining = c.next.new.self.rest.items in
+    ap (λ l. l ++ somes remaining) c.in_ok-push.ensures.items ∙ append_assoc there ((c.in-Some.id, c.in-Some-change.value) ∷ []) (somes remaining)
+    ∙ ap (λ o. there ++ somes ((c.in-Some.id, o) ∷ remaining)) (sym c.in-Some-change.is)
     ∙ ap (λ l. there ++ somes l) (sym c.in-Some.ensures.steps.0) ∙ c.loop-id.invariant
 
 pub loop-id-preserved : goal.loop-id-preserved
@@ -21,15 +21,15 @@ loop-id-preserved g c =
 
 pub from_rising-requires : goal.from_rising-requires
 from_rising-requires g c =
-    let left = c.loop-id.id-iterator.rest in
-    let done : left.items ≡ [] = nil_from_length left.items (sym left.ok.0 ∙ c.in-None.ensures.steps.0) in
+    let remaining = c.loop-id.id-iterator.rest in
+    let done : remaining.items ≡ [] = nil_from_length remaining.items (sym remaining.ok.0 ∙ c.in-None.ensures.steps.0) in
     let all = sym (append-nil c.loop-id.there.items) ∙ ap (λ l. c.loop-id.there.items ++ somes l) (sym done) ∙ c.loop-id.invariant in
     subst (λ l. HasRisingIds l) (sym all) (somes_rise c.args.changes.items c.requires)
 
 pub returns : goal.returns
 returns g c =
-    let left = c.loop-id.id-iterator.rest in
-    let done : left.items ≡ [] = nil_from_length left.items (sym left.ok.0 ∙ c.in-None.ensures.steps.0) in
+    let remaining = c.loop-id.id-iterator.rest in
+    let done : remaining.items ≡ [] = nil_from_length remaining.items (sym remaining.ok.0 ∙ c.in-None.ensures.steps.0) in
     let all = sym (append-nil c.loop-id.there.items) ∙ ap (λ l. c.loop-id.there.items ++ somes l) (sym done) ∙ c.loop-id.invariant in
     subst (λ l. IfOk c.from_rising.result (λ records. records ≡ l)) (all ∙ somes_are c.args.changes.items c.requires) c.from_rising.ensures
 

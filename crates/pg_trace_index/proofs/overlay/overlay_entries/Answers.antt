@@ -7,9 +7,9 @@ use Rattle.pg_trace_index.proofs.overlay.overlay_entries.Goals as goal
 pub loop-chunk-preserved : goal.loop-chunk-preserved
 loop-chunk-preserved c =
     let before = c.loop-chunk.list.items in
-    let left = c.next.new.self.rest.items in
+    let remaining = c.next.new.self.rest.items in
     let added : c.append.new.self.items ≡ before ++ listed c.in-Some.chunk = c.in_ok-append.ensures.items in
-    ap (λ l. l ++ all_of left) added ∙ append_assoc before (listed c.in-Some.chunk) (all_of left)
+    ap (λ l. l ++ all_of remaining) added ∙ append_assoc before (listed c.in-Some.chunk) (all_of remaining)
     ∙ ap (λ l. before ++ all_of l) (sym c.in-Some.ensures.steps.0) ∙ c.loop-chunk.invariant
 
 pub returns : goal.returns

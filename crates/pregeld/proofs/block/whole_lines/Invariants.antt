@@ -11,5 +11,5 @@ invariant-loop-lines l = record {
   within : l.bytes ≤ length l.text;
   so_far : count_by is_line_feed (take l.bytes l.text) ≡ l.lines;
   ends : IsEmptyOrEndsWith (take l.bytes l.text) 10;
-  left : l.feeds ≡ places_between is_line_feed l.text l.bytes (length l.text);
+  unread : l.feeds ≡ places_between is_line_feed l.text l.bytes (length l.text);
 }

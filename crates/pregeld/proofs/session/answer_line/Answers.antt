@@ -56,17 +56,17 @@ returns-in-Ok-write_reply-clause-ok g c state keeps lines there =
     let command = Ok (Act c.in-Ok-Act.action) in
     let asks : command_of c.args.line.text.now ≡ command = sym c.command_of.ensures ∙ (c.in-Ok-Act.is ∙ ap Ok c.in-Ok-Act.field-0-is) in
     let pair = c.in_ok-reply-in-Ok-Act in
-    let left = lines_left (g.R.Read.remaining c.run_action.new.reader) in
+    let unread = lines_left (g.R.Read.remaining c.run_action.new.reader) in
     let written = g.W.Write.contents c.args.writer.now in
     let told = g.W.Write.contents c.write_reply.new.writer in
     subst (λ service. AnswersLine c.args.line.text.now here c.args.service.now
-    (record { service = service; session_state = c.note_fault.new.self }) pair.reached left written told)
+    (record { service = service; session_state = c.note_fault.new.self }) pair.reached unread written told)
     (sym c.drop_deferred.ensures)
     (subst (λ session_state. AnswersLine c.args.line.text.now here c.args.service.now
-    (record { service = c.run_action.new.service; session_state = session_state }) pair.reached left written told)
+    (record { service = c.run_action.new.service; session_state = session_state }) pair.reached unread written told)
     (sym c.note_fault.ensures)
     (line_answered c.args.line.text.now command here c.args.service.now (record { service = c.run_action.new.service; session_state = c.run_action.new.session_state })
-    pair.reply pair.reached left written told asks (pair.ensures.ok state keeps lines there) c.in-Ok-write_reply.ensures.ok))
+    pair.reply pair.reached unread written told asks (pair.ensures.ok state keeps lines there) c.in-Ok-write_reply.ensures.ok))
 
 pub returns-in-Err-write_reply-clause-err : goal.returns-in-Err-write_reply-clause-err
 returns-in-Err-write_reply-clause-err g c state keeps lines there =
@@ -85,21 +85,21 @@ pub returns-in-Ok-write_reply-2-clause-ok : goal.returns-in-Ok-write_reply-2-cla
 returns-in-Ok-write_reply-2-clause-ok g c state keeps lines there =
     let here : Place = record { number = c.args.line.number; state = state; lines = lines } in
     let held : ServiceWithSession = record { service = c.args.service.now; session_state = c.args.session_state.now } in
-    let left = lines_left (g.R.Read.remaining c.args.reader.now) in
+    let unread = lines_left (g.R.Read.remaining c.args.reader.now) in
     let asks : command_of c.args.line.text.now ≡ Err c.in-Err.fault = sym c.command_of.ensures ∙ c.in-Err.is in
-    subst (λ session_state. AnswersLine c.args.line.text.now here c.args.service.now (record { service = c.args.service.now; session_state = session_state }) c.args.line.number left
+    subst (λ session_state. AnswersLine c.args.line.text.now here c.args.service.now (record { service = c.args.service.now; session_state = session_state }) c.args.line.number unread
     (g.W.Write.contents c.args.writer.now) (g.W.Write.contents c.write_reply-in-Err.new.writer)) (sym c.note_fault-in-Err.ensures)
-    (line_answered c.args.line.text.now (Err c.in-Err.fault) here c.args.service.now held (Fault c.in-Err.fault c.args.line.number) c.args.line.number left
+    (line_answered c.args.line.text.now (Err c.in-Err.fault) here c.args.service.now held (Fault c.in-Err.fault c.args.line.number) c.args.line.number unread
     (g.W.Write.contents c.args.writer.now) (g.W.Write.contents c.write_reply-in-Err.new.writer) asks
-    (fault_replies c.in-Err.fault here held left keeps there) c.in-Ok-write_reply-2.ensures.ok)
+    (fault_replies c.in-Err.fault here held unread keeps there) c.in-Ok-write_reply-2.ensures.ok)
 
 pub returns-in-Err-write_reply-2-clause-err : goal.returns-in-Err-write_reply-2-clause-err
 returns-in-Err-write_reply-2-clause-err g c state keeps lines there =
     let here : Place = record { number = c.args.line.number; state = state; lines = lines } in
     let held : ServiceWithSession = record { service = c.args.service.now; session_state = c.args.session_state.now } in
-    let left = lines_left (g.R.Read.remaining c.args.reader.now) in
+    let unread = lines_left (g.R.Read.remaining c.args.reader.now) in
     let asks : command_of c.args.line.text.now ≡ Err c.in-Err.fault = sym c.command_of.ensures ∙ c.in-Err.is in
     line_unwritten c.in-Err-write_reply-2.fault c.args.line.text.now (Err c.in-Err.fault) here c.args.service.now held (Fault c.in-Err.fault c.args.line.number)
-    c.args.line.number left
+    c.args.line.number unread
     (g.W.Write.contents c.args.writer.now) (g.W.Write.contents c.write_reply-in-Err.new.writer) asks
-    (fault_replies c.in-Err.fault here held left keeps there) c.in-Err-write_reply-2.ensures.err
+    (fault_replies c.in-Err.fault here held unread keeps there) c.in-Err-write_reply-2.ensures.err

@@ -67,18 +67,18 @@ pub loop-turn-preserved : goal.loop-turn-preserved
 loop-turn-preserved g c input there =
     let m = c.loop-turn.invariant input there in
     let now : ServiceWithSession = record { service = c.loop-turn.service; session_state = c.loop-turn.session_state } in
-    let left = lines_left (g.R.Read.remaining c.answer_line.new.reader) in
+    let unread = lines_left (g.R.Read.remaining c.answer_line.new.reader) in
     let read = subst (λ o. NextLine (option_map (λ bytes. bytes.items) o) m.lines (lines_left (g.R.Read.remaining c.next_line.new.reader)))
     c.in-Some.is (c.in_ok-line.ensures.ok m.lines m.left_is) in
     let answered = c.in-Ok.ensures.ok m.state (keeps_midway c.args.service.now now m.state m.service_is m.session_state_are) read.0 read.2 in
     let told = subst (λ (l : List ℕ). AnswersLine l (record { number = c.in-Some-checked_add.here; state = m.state; lines = read.0 }) now.service
-    (record { service = c.answer_line.new.service; session_state = c.answer_line.new.session_state }) c.in-Ok.reached left (g.W.Write.contents c.loop-turn.writer)
+    (record { service = c.answer_line.new.service; session_state = c.answer_line.new.session_state }) c.in-Ok.reached unread (g.W.Write.contents c.loop-turn.writer)
     (g.W.Write.contents c.answer_line.new.writer)) c.as_slice.ensures.value answered in
     let here : c.in-Some-checked_add.here ≡ c.loop-turn.number + 1 = search rules in
     goes_on input c.args.service.now now c.loop-turn.number (lines_left (g.R.Read.remaining c.loop-turn.reader))
     (g.W.Write.contents c.args.writer.now) (g.W.Write.contents c.loop-turn.writer) m
-    c.in-Some.line.items read.0 read.1 (record { service = c.answer_line.new.service; session_state = c.answer_line.new.session_state }) c.in-Ok.reached left
+    c.in-Some.line.items read.0 read.1 (record { service = c.answer_line.new.service; session_state = c.answer_line.new.session_state }) c.in-Ok.reached unread
     (g.W.Write.contents c.answer_line.new.writer)
     (subst (λ n. AnswersLine c.in-Some.line.items (record { number = n; state = m.state; lines = read.0 }) now.service
-    (record { service = c.answer_line.new.service; session_state = c.answer_line.new.session_state }) c.in-Ok.reached left (g.W.Write.contents c.loop-turn.writer)
+    (record { service = c.answer_line.new.service; session_state = c.answer_line.new.session_state }) c.in-Ok.reached unread (g.W.Write.contents c.loop-turn.writer)
     (g.W.Write.contents c.answer_line.new.writer)) here told)

@@ -10,16 +10,16 @@ use Rattle.pg_checkpoint.proofs.reading.Reader.supersteps.Goals as goal
 pub returns-in_err-superstep : goal.returns-in_err-superstep
 returns-in_err-superstep g c =
     let p = err_from_is_err_and c.from_residual.result c.from_residual.ensures.1 in
-    rw (p.1, p.2) (no_item (are_listed (AreParts g.V.Plain.is_value g.M.Plain.is_value)) (list_coding (parts_coding g.V.Coded.coding g.M.Coded.coding)) c.args.count c.args.self.now c.loop-left.supersteps c.loop-left.left c.loop-left.self
-    c.in_err-superstep.field-0.0 c.superstep.new.self c.loop-left-test.true c.in_err-superstep.ensures c.loop-left.invariant)
+    rw (p.1, p.2) (no_item (are_listed (AreParts g.V.Plain.is_value g.M.Plain.is_value)) (list_coding (parts_coding g.V.Coded.coding g.M.Coded.coding)) c.args.count c.args.self.now c.loop-remaining.supersteps c.loop-remaining.remaining c.loop-remaining.self
+    c.in_err-superstep.field-0.0 c.superstep.new.self c.loop-remaining-test.true c.in_err-superstep.ensures c.loop-remaining.invariant)
 
-pub loop-left-preserved : goal.loop-left-preserved
-loop-left-preserved g c =
-    subst (λ l. IsBehind (are_listed (AreParts g.V.Plain.is_value g.M.Plain.is_value)) (list_coding (parts_coding g.V.Coded.coding g.M.Coded.coding)) c.args.count c.args.self.now l (c.loop-left.left - 1) c.superstep.new.self) (sym c.in_ok-push.ensures.ok)
-    (goes_on (are_listed (AreParts g.V.Plain.is_value g.M.Plain.is_value)) (list_coding (parts_coding g.V.Coded.coding g.M.Coded.coding)) c.args.count c.args.self.now c.loop-left.supersteps c.loop-left.left c.loop-left.self c.in_ok-superstep.superstep c.superstep.new.self
-    c.loop-left-test.true c.in_ok-superstep.ensures c.loop-left.invariant)
+pub loop-remaining-preserved : goal.loop-remaining-preserved
+loop-remaining-preserved g c =
+    subst (λ l. IsBehind (are_listed (AreParts g.V.Plain.is_value g.M.Plain.is_value)) (list_coding (parts_coding g.V.Coded.coding g.M.Coded.coding)) c.args.count c.args.self.now l (c.loop-remaining.remaining - 1) c.superstep.new.self) (sym c.in_ok-push.ensures.ok)
+    (goes_on (are_listed (AreParts g.V.Plain.is_value g.M.Plain.is_value)) (list_coding (parts_coding g.V.Coded.coding g.M.Coded.coding)) c.args.count c.args.self.now c.loop-remaining.supersteps c.loop-remaining.remaining c.loop-remaining.self c.in_ok-superstep.superstep c.superstep.new.self
+    c.loop-remaining-test.true c.in_ok-superstep.ensures c.loop-remaining.invariant)
 
 pub returns : goal.returns
 returns g c =
-    is_done (are_listed (AreParts g.V.Plain.is_value g.M.Plain.is_value)) (list_coding (parts_coding g.V.Coded.coding g.M.Coded.coding)) c.args.count c.args.self.now c.loop-left.supersteps c.loop-left.left c.loop-left.self c.loop-left-test.false
-    c.loop-left.invariant
+    is_done (are_listed (AreParts g.V.Plain.is_value g.M.Plain.is_value)) (list_coding (parts_coding g.V.Coded.coding g.M.Coded.coding)) c.args.count c.args.self.now c.loop-remaining.supersteps c.loop-remaining.remaining c.loop-remaining.self c.loop-remaining-test.false
+    c.loop-remaining.invariant

@@ -29,9 +29,9 @@ pub invariant_of-self : goal.invariant_of-self
 invariant_of-self c =
     let there = row_now _ _ _ _ c.self.invariant c.args.source _ c.in_ok-row.ensures.row in
     let less = one_less _ _ _ c.if-not-there.false c.in_ok-there.ensures.degree in
-    let left = edges_left _ _ _ _ c.self.invariant c.args.source c.in_ok-row.row there in
+    let remaining = edges_left _ _ _ _ c.self.invariant c.args.source c.in_ok-row.row there in
     replaced _ _ _ _ c.self.invariant c.args.source _ _ _ c.take_row.ensures.taken c.in_ok-put.ensures.ok c.in_ok-row.row there c.remove_edge.new.self
-    (c.self.inside.edges - 1) refl (omega (arith, less, left)) (omega (arith, c.self.invariant.edges_fit))
+    (c.self.inside.edges - 1) refl (omega (arith, less, remaining)) (omega (arith, c.self.invariant.edges_fit))
 
 pub returns-clause-ok : goal.returns-clause-ok
 returns-clause-ok c =

@@ -25,9 +25,9 @@ pub invariant_of-self : goal.invariant_of-self
 invariant_of-self c =
     let there = row_now _ _ _ _ c.self.invariant c.args.id _ c.in_ok-row.ensures.row in
     let some = vertex_left _ _ _ _ c.self.invariant c.args.id c.in_ok-row.row there in
-    let left = edges_left _ _ _ _ c.self.invariant c.args.id c.in_ok-row.row there in
+    let remaining = edges_left _ _ _ _ c.self.invariant c.args.id c.in_ok-row.row there in
     removed _ _ _ _ c.self.invariant c.args.id _ _ _ c.take_row.ensures.taken c.in_ok-put.ensures.ok c.in_ok-row.row there
-    (c.self.inside.vertices - 1) (c.self.inside.edges - c.degree.result) refl (omega (arith, some)) (omega (arith, c.degree.ensures, left))
+    (c.self.inside.vertices - 1) (c.self.inside.edges - c.degree.result) refl (omega (arith, some)) (omega (arith, c.degree.ensures, remaining))
 
 pub returns-clause-ok : goal.returns-clause-ok
 returns-clause-ok c =

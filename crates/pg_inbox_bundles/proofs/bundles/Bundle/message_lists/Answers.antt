@@ -12,10 +12,10 @@ pub loop-id-init : goal.loop-id-init
 loop-id-init g c =
     let all = c.into_iter-id-iterator.ensures.into_iter_gives ∙ c.iter-id-items.ensures.rest in
     record {
-      envelopes_rise = subst (IsNonDecreasingBy (λ p. p.0)) (sym c.as_slice-left.ensures) c.self.invariant.envelopes_rise;
+      envelopes_rise = subst (IsNonDecreasingBy (λ p. p.0)) (sym c.as_slice-remaining.ensures) c.self.invariant.envelopes_rise;
       changes_rise = subst ChangesRise (sym all) c.self.invariant.changes_rise;
-      message_lists = ap (λ l. l ++ message_lists_with c.into_iter-id-iterator.result c.as_slice-left.result.now) c.in_ok-message_lists.ensures.items
-          ∙ ap (λ cs. message_lists_with cs c.as_slice-left.result.now) all ∙ ap (message_lists_with c.self.inside.changes) c.as_slice-left.ensures ∙ c.self.view_is;
+      message_lists = ap (λ l. l ++ message_lists_with c.into_iter-id-iterator.result c.as_slice-remaining.result.now) c.in_ok-message_lists.ensures.items
+          ∙ ap (λ cs. message_lists_with cs c.as_slice-remaining.result.now) all ∙ ap (message_lists_with c.self.inside.changes) c.as_slice-remaining.ensures ∙ c.self.view_is;
     }
 
 pub loop-id-preserved : goal.loop-id-preserved
@@ -25,16 +25,16 @@ loop-id-preserved g c =
     let change : ℕ × Option (Contents g.row.M.Denot) = (c.in-Some.id.now, c.in-Some.change.now) in
     let rise = subst ChangesRise c.in-Some.ensures.steps c.loop-id.invariant.changes_rise in
     record {
-      envelopes_rise = c.in_ok-left.ensures.rise;
+      envelopes_rise = c.in_ok-remaining.ensures.rise;
       changes_rise = rises_after change rest rise;
-      message_lists = c.in_ok-left.ensures.message_lists rest rise ∙ ap (λ cs. before ++ message_lists_with cs c.loop-id.left.now) (sym c.in-Some.ensures.steps)
+      message_lists = c.in_ok-remaining.ensures.message_lists rest rise ∙ ap (λ cs. before ++ message_lists_with cs c.loop-id.remaining.now) (sym c.in-Some.ensures.steps)
           ∙ c.loop-id.invariant.message_lists;
     }
 
 pub returns-clause-message_lists : goal.returns-clause-message_lists
 returns-clause-message_lists g c =
     c.in_ok-add_sent.ensures
-    ∙ ap (λ cs. c.loop-id.message_lists.items ++ message_lists_with cs c.loop-id.left.now) (sym c.in-None.ensures.steps.0)
+    ∙ ap (λ cs. c.loop-id.message_lists.items ++ message_lists_with cs c.loop-id.remaining.now) (sym c.in-None.ensures.steps.0)
     ∙ c.loop-id.invariant.message_lists
 
 pub returns-clause-rise : goal.returns-clause-rise
@@ -45,8 +45,8 @@ pub returns-in_err-message_lists-clause-rise : goal.returns-in_err-message_lists
 returns-in_err-message_lists-clause-rise g c =
     subst HasRisingIds c.self.view_is (with_rise c.self.inside.changes (envelopes_of c.self.inside.envelopes) c.self.invariant.envelopes_rise)
 
-pub returns-in_err-left-clause-rise : goal.returns-in_err-left-clause-rise
-returns-in_err-left-clause-rise g c =
+pub returns-in_err-remaining-clause-rise : goal.returns-in_err-remaining-clause-rise
+returns-in_err-remaining-clause-rise g c =
     subst HasRisingIds c.self.view_is (with_rise c.self.inside.changes (envelopes_of c.self.inside.envelopes) c.self.invariant.envelopes_rise)
 
 pub returns-in_err-add_sent-clause-rise : goal.returns-in_err-add_sent-clause-rise

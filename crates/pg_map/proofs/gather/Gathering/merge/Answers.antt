@@ -37,7 +37,7 @@ pub loop-change-preserved-in_ok-push-in_default-split_first : goal.loop-change-p
 loop-change-preserved-in_ok-push-in_default-split_first g c =
     let now = c.loop-change in
     let next = c.in-Some.ensures.cases.0 in
-    let above : From (c.in-Some.change.now.0 + 1) now.left.now = elim c.in_default-split_first.branch [
+    let above : From (c.in-Some.change.now.0 + 1) now.remaining.now = elim c.in_default-split_first.branch [
       | in_default-split_first-via-in-Some-2+else-eq w ↦ from_entry now.self now.self _ _ _ _ next now.invariant.changes_rise
           w.in-Some-split_first.entry.now _ w.in-Some-split_first.ensures.cases.0 now.invariant.entries_rise
           (not_below_by _ _ w.if-lt.ensures) (apart_by _ _ w.if-eq.ensures)
@@ -55,7 +55,7 @@ pub loop-change-preserved : goal.loop-change-preserved
 loop-change-preserved g c =
     let now = c.loop-change in
     let next = c.in-Some.ensures.cases.0 in
-    let above : From (c.in-Some.change.now.0 + 1) now.left.now = elim c.in_default-split_first.branch [
+    let above : From (c.in-Some.change.now.0 + 1) now.remaining.now = elim c.in_default-split_first.branch [
       | in_default-split_first-via-in-Some-2+else-eq w ↦ from_entry now.self now.self _ _ _ _ next now.invariant.changes_rise
           w.in-Some-split_first.entry.now _ w.in-Some-split_first.ensures.cases.0 now.invariant.entries_rise
           (not_below_by _ _ w.if-lt.ensures) (apart_by _ _ w.if-eq.ensures)
@@ -73,4 +73,4 @@ returns g c =
     let now = c.loop-change in
     let over = nil_from_length now.todo.now c.in_default.ensures.cases in
     IfOk-equal c.extend.result _ _ _ c.extend.ensures
-    (sym (ap (λ l. now.self ++ with_changes l now.left.now) over) ∙ now.invariant.made)
+    (sym (ap (λ l. now.self ++ with_changes l now.remaining.now) over) ∙ now.invariant.made)

@@ -24,7 +24,7 @@ loop-chunk-preserved g c =
     let later = c.split_at.result.1.now in
     let parts = c.split_at.ensures.by_index.0 in
     record {
-      made = part_turn listed now.self _ now.left.now c.in-Some.others.now c.in-Some.chunk.now now.todo.now here later c.cut_of.result at parts
+      made = part_turn listed now.self _ now.remaining.now c.in-Some.others.now c.in-Some.chunk.now now.todo.now here later c.cut_of.result at parts
           c.split_at.ensures.front c.split_at.ensures.back now.invariant.chunks now.invariant.entries_rise c.cut_of.ensures.cut c.in_ok-merge_chunk.ensures
           ∙ now.invariant.made;
       chunks = (subst AreChunks at now.invariant.chunks).1;
@@ -37,6 +37,6 @@ pub returns : goal.returns
 returns g c =
     let now = c.loop-chunk in
     let none = c.as_slice.ensures.value ∙ c.new-none.ensures.items in
-    let over = nil_from_length now.left.now c.in_default.ensures.cases in
+    let over = nil_from_length now.remaining.now c.in_default.ensures.cases in
     IfOk-equal c.merge.result _ _ _ c.merge.ensures
     (ap (λ l. now.self ++ with_changes now.todo.now l) (none ∙ sym (ap entries_of over)) ∙ now.invariant.made)

@@ -5,11 +5,11 @@ use Rattle.pg_map.proofs.gather.Gathering.merge_chunks.Given as goal
 
 abbrev pub invariant-loop-chunk : goal.invariant-loop-chunk
 invariant-loop-chunk g l = record {
-  made : l.self ++ with_changes l.todo (entries_of l.left) ≡ l.initial.self ++ with_changes l.changes (entries_of l.chunks);
-  chunks : AreChunks l.left;
-  entries_rise : HasRisingIds (entries_of l.left);
+  made : l.self ++ with_changes l.todo (entries_of l.remaining) ≡ l.initial.self ++ with_changes l.changes (entries_of l.chunks);
+  chunks : AreChunks l.remaining;
+  entries_rise : HasRisingIds (entries_of l.remaining);
   changes_rise : ChangesRise l.todo;
 }
 
 abbrev pub decreases-loop-chunk : goal.decreases-loop-chunk
-decreases-loop-chunk g l = length l.left
+decreases-loop-chunk g l = length l.remaining

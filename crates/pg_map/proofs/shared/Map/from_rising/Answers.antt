@@ -5,8 +5,8 @@ use Rattle.pg_map.specs.Entries.{HasRisingIds}
 use Rattle.pg_map.proofs.InParts.{sound_of}
 use Rattle.pg_map.proofs.shared.Map.from_rising.Goals as goal
 
-all_gathered : {X : Type 0} (made gathering left entries : List X) → made ≡ gathering → left ≡ [] → gathering ++ left ≡ entries → made ≡ entries
-all_gathered made gathering left entries is none all =
+all_gathered : {X : Type 0} (made gathering remaining entries : List X) → made ≡ gathering → remaining ≡ [] → gathering ++ remaining ≡ entries → made ≡ entries
+all_gathered made gathering remaining entries is none all =
     is ∙ sym (append-nil gathering) ∙ sym (ap (λ l. gathering ++ l) none) ∙ all
 
 pub loop-id-preserved : goal.loop-id-preserved
@@ -21,16 +21,16 @@ loop-id-preserved g c =
 pub invariant_of-result : goal.invariant_of-result
 invariant_of-result g c =
     let made = c.in_ok-made.made.items in
-    let left = c.loop-id.id-iterator.rest in
-    let over = nil_from_length left.items (sym left.ok.0 ∙ c.in-None.ensures.steps.0) in
-    let is = all_gathered (all_of made) c.loop-id.gathering left.items _ c.in_ok-made.ensures.entries over c.loop-id.invariant in
+    let remaining = c.loop-id.id-iterator.rest in
+    let over = nil_from_length remaining.items (sym remaining.ok.0 ∙ c.in-None.ensures.steps.0) in
+    let is = all_gathered (all_of made) c.loop-id.gathering remaining.items _ c.in_ok-made.ensures.entries over c.loop-id.invariant in
     sound_of _ made _ c.in_ok-groups.ensures c.in_ok-made.ensures.groups (subst HasRisingIds (sym is) c.requires)
     (c.in_ok-count.ensures ∙ ap (sum_by (λ p. p.count)) c.as_slice.ensures.value)
 
 pub returns : goal.returns
 returns g c =
     let made = c.in_ok-made.made.items in
-    let left = c.loop-id.id-iterator.rest in
-    let over = nil_from_length left.items (sym left.ok.0 ∙ c.in-None.ensures.steps.0) in
+    let remaining = c.loop-id.id-iterator.rest in
+    let over = nil_from_length remaining.items (sym remaining.ok.0 ∙ c.in-None.ensures.steps.0) in
     ap all_of c.in_ok-groups.ensures
-    ∙ all_gathered (all_of made) c.loop-id.gathering left.items _ c.in_ok-made.ensures.entries over c.loop-id.invariant
+    ∙ all_gathered (all_of made) c.loop-id.gathering remaining.items _ c.in_ok-made.ensures.entries over c.loop-id.invariant

@@ -58,15 +58,15 @@ loop-superstep-preserved g c =
 
 pub returns-clause-resumed : goal.returns-clause-resumed
 returns-clause-resumed g c =
-    let left = c.loop-superstep.superstep-iterator.rest in
-    let all = moved_all c.loop-superstep.yielded (nil_from_length left.items (sym left.ok.0 ∙ c.in-None.ensures.steps.0)) c.loop-superstep.invariant.whole in
+    let remaining = c.loop-superstep.superstep-iterator.rest in
+    let all = moved_all c.loop-superstep.yielded (nil_from_length remaining.items (sym remaining.ok.0 ∙ c.in-None.ensures.steps.0)) c.loop-superstep.invariant.whole in
     subst (λ l. IsResumed (map (λ r. r.items) l) c.args.self.part_run c.loop-superstep.part.part_run) all c.loop-superstep.invariant.resumed
 
 pub returns-clause-holds : goal.returns-clause-holds
 returns-clause-holds g c job rows n p same held =
     let part = c.loop-superstep.part in
-    let left = c.loop-superstep.superstep-iterator.rest in
-    let all = moved_all c.loop-superstep.yielded (nil_from_length left.items (sym left.ok.0 ∙ c.in-None.ensures.steps.0)) c.loop-superstep.invariant.whole in
+    let remaining = c.loop-superstep.superstep-iterator.rest in
+    let all = moved_all c.loop-superstep.yielded (nil_from_length remaining.items (sym remaining.ok.0 ∙ c.in-None.ensures.steps.0)) c.loop-superstep.invariant.whole in
     subst (λ l. length l ≤ run_length job rows → map (λ r. r.items) l ≡ records_below job rows n p (length l)
     → HoldsShare job None rows n p (length l) part) all
     (c.loop-superstep.invariant.holds job rows n p same held)

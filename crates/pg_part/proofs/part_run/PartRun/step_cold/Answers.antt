@@ -1,6 +1,6 @@
 use Rattle.std.proofs.Common.{sym, ap, subst}
 use Rattle.std.proofs.lemmas.Result.{IfOk-from_err, IfOk-weaker}
-use Rattle.pg_part_compute.proofs.Playing.{step_delta_rise}
+use Rattle.pg_part_compute.proofs.StepDeltas.{step_delta_rise}
 use Rattle.pg_part.specs.PartRun.{HasStepped}
 use Rattle.pg_part.proofs.ColdStep.{cold_steps}
 use Rattle.pg_part.proofs.Both.{if_ok_both}

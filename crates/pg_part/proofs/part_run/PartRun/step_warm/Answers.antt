@@ -1,6 +1,6 @@
 use Rattle.std.proofs.Common.{◌≡◌, ◌<◌, None, ap, sym, ◌∙◌, subst}
 use Rattle.std.proofs.lemmas.Result.{IfOk-from_err, IfOk-weaker}
-use Rattle.pg_part_compute.proofs.Playing.{dirty_ids_rise, step_delta_rise}
+use Rattle.pg_part_compute.proofs.StepDeltas.{dirty_ids_rise, step_delta_rise}
 use Rattle.pg_part.specs.PartRun.{HasStepped, PartRunState, Holds}
 use Rattle.pg_part.specs.Warm.{IsFinishedStep, IsStepDeltaWarm, advanced}
 use Rattle.pg_part.proofs.Both.{if_ok_both}

@@ -5,4 +5,4 @@ use Rattle.pg_part_compute.proofs.execution.Executor.len.Goals as goal
 pub returns : goal.returns
 returns g c =
     let executor = c.args.self.now in
-    c.len.ensures ∙ executor.left.ok.0 ∙ sym (length_in executor.cx.sent executor.cx.contributed executor.left.items)
+    c.len.ensures ∙ executor.produced.ok.0 ∙ sym (length_in executor.cx.sent executor.cx.contributed executor.produced.items)
